@@ -1,0 +1,6 @@
+pub mod Rule
+pub mod Months
+pub mod Count
+pub mod Ranges
+pub mod Search
+pub mod DayOfYear

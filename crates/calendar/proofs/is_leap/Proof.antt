@@ -1,0 +1,12 @@
+-- The tests are those of the definition.
+use borrow.Author.Needs.{needs}
+use Rattle.calendar.specs.Calendar.{isLeap}
+use Rattle.calendar.proofs.is_leap.Statement.{statement}
+use Rattle.calendar.proofs.is_leap.Tie as tie
+
+returns : tie.Need-returns
+unfolding isLeap
+returns c = search needs
+
+pub is-leap-spec : {M : Type 1} → statement M
+is-leap-spec = tie.close (tie.spec returns)

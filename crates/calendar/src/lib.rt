@@ -1,0 +1,141 @@
+// The Gregorian calendar of the years 2000 to 2099. Every function answers for all numbers: what is no date is said to be none.
+ghost use mathlib.Core.Path.{_≡_};
+ghost use mathlib.Core.Bool.{true};
+ghost use Prim.Native.Nat.{_<_};
+ghost use Rattle.calendar.specs.Calendar.{dayNumber, dayOfYear, isDate, isLeap, isMonth, monthDays, monthLength};
+ghost use Rattle.calendar.specs.Answers.{dateOfDay, dayNumberIn, dayOfYearIn, weekdayIn};
+
+mod table;
+
+// A number that only a date has.
+pub enum Day {
+    Number(u32),
+    NoSuchDate,
+}
+
+// The month and the day of the month on which a day of the year falls.
+pub enum MonthDay {
+    On { month: u32, day: u32 },
+    NoSuchDate,
+}
+
+// Whether a year of the Gregorian calendar has 29 February.
+fn is_leap(year: u32) -> bool
+    ensures { λ r. ⌜ r ≡ isLeap year ⌝ }
+{
+    (year % 4 == 0) & (!(year % 100 == 0) | (year % 400 == 0))
+}
+
+// Whether the calendar has month `m` of the year 2000 + `y`.
+fn is_month(y: u32, m: u32) -> bool
+    ensures { λ r. ⌜ r ≡ isMonth y m ⌝ }
+{
+    (y < 100) & ((1 <= m) & (m <= 12))
+}
+
+// The days of month `m`, 1 January to 12 December, of the year 2000 + `y`.
+fn month_days(y: u32, m: u32) -> u32
+    requires { ⌜ y < 100 ⌝ }
+    ensures { λ r. ⌜ r ≡ monthDays y m ⌝ }
+{
+    if m == 2 {
+        if is_leap(2000 + y) {
+            return 29;
+        }
+        return 28;
+    }
+    if (m == 4) | ((m == 6) | ((m == 9) | (m == 11))) {
+        30
+    } else {
+        31
+    }
+}
+
+// The days of month `m` of the year 2000 + `y`, and 0 for a month that the calendar does not have.
+pub fn month_length(y: u32, m: u32) -> u32
+    ensures { λ r. ⌜ r ≡ monthLength y m ⌝ }
+{
+    if is_month(y, m) { month_days(y, m) } else { 0 }
+}
+
+// Whether the calendar has day `d` of month `m` of the year 2000 + `y`.
+pub fn is_date(y: u32, m: u32, d: u32) -> bool
+    ensures { λ r. ⌜ r ≡ isDate y m d ⌝ }
+{
+    (1 <= d) & (d <= month_length(y, m))
+}
+
+// The days from 1 January 2000 to a date of the calendar.
+fn number_of(y: u32, m: u32, d: u32) -> u32
+    requires { ⌜ isDate y m d ≡ true ⌝ }
+    ensures { λ r. ⌜ r ≡ dayNumber y m d ⌝ }
+{
+    table::first_of(y, m) + (d - 1)
+}
+
+// The day of the year of a date of the calendar: what lies between two entries of the table, and the day.
+fn day_in_year(y: u32, m: u32, d: u32) -> u32
+    requires { ⌜ isDate y m d ≡ true ⌝ }
+    ensures { λ r. ⌜ r ≡ dayOfYear y m d ⌝ }
+{
+    let before = table::first_of(y, m) - table::first_of(y, 1);
+    before + d
+}
+
+// The days from 1 January 2000 to a date, where there is one.
+pub fn day_number(y: u32, m: u32, d: u32) -> Day
+    ensures { λ r. ⌜ r ≡ dayNumberIn y m d ⌝ }
+{
+    if is_date(y, m, d) {
+        Day::Number(number_of(y, m, d))
+    } else {
+        Day::NoSuchDate
+    }
+}
+
+// The weekday of a date, 1 for Monday to 7 for Sunday.
+pub fn weekday(y: u32, m: u32, d: u32) -> Day
+    ensures { λ r. ⌜ r ≡ weekdayIn y m d ⌝ }
+{
+    if is_date(y, m, d) {
+        // The days from Monday, 27 December 1999.
+        let days = number_of(y, m, d) + 5;
+        Day::Number(days % 7 + 1)
+    } else {
+        Day::NoSuchDate
+    }
+}
+
+// The day of the year of a date, 1 for 1 January.
+pub fn day_of_year(y: u32, m: u32, d: u32) -> Day
+    ensures { λ r. ⌜ r ≡ dayOfYearIn y m d ⌝ }
+{
+    if is_date(y, m, d) {
+        Day::Number(day_in_year(y, m, d))
+    } else {
+        Day::NoSuchDate
+    }
+}
+
+// The date of day `n` of the year 2000 + `y`.
+pub fn date_of_day(y: u32, n: u32) -> MonthDay
+    ensures { λ r. ⌜ r ≡ dateOfDay y n ⌝ }
+{
+    let mut m: u32 = 1;
+    let mut left = n;
+    while m <= 12 {
+        let days = month_length(y, m);
+        if left <= days {
+            if 1 <= left {
+                return MonthDay::On {
+                    month: m,
+                    day: left,
+                };
+            }
+            return MonthDay::NoSuchDate;
+        }
+        left -= days;
+        m += 1;
+    }
+    MonthDay::NoSuchDate
+}

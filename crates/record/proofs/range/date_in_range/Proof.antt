@@ -1,0 +1,42 @@
+-- A full date is tested by the calendar, a day of year by its two bounds.
+use mathlib.Core.Path.{sym, ap, _∙_}
+use borrow.Author.Needs.{needs}
+use Rattle.record.specs.Record.{dateInRange}
+use Rattle.record.proofs.range.date_in_range.Statement.{statement}
+use Rattle.record.proofs.range.date_in_range.Tie as tie
+
+enum-told : tie.Need-enum-told
+enum-told c = search needs
+
+enum-known-date : tie.Need-enum-known-date
+enum-known-date c = search needs
+
+is-date-requires : tie.Need-is-date-requires
+is-date-requires c κs = search needs
+
+enum-known-date-2 : tie.Need-enum-known-date-2
+enum-known-date-2 c = search needs
+
+returns : tie.Need-returns
+unfolding dateInRange
+returns c = search needs
+
+returns-2 : tie.Need-returns-2
+unfolding dateInRange
+returns-2 c = c .is-date .ensures ∙ sym (ap dateInRange (c .before .before .date .given .1))
+
+returns-3 : tie.Need-returns-3
+unfolding dateInRange
+returns-3 c = sym (ap dateInRange (c .before .date2 .given .1))
+
+pub date-in-range-spec : {M : Type 1} → statement M
+date-in-range-spec =
+    tie.close
+    (tie.spec
+    enum-told
+    enum-known-date
+    is-date-requires
+    enum-known-date-2
+    returns
+    returns-2
+    returns-3)

@@ -1,0 +1,34 @@
+-- The minutes are a number of 32 bits, so their magnitude is tested against the bound of the definition.
+use mathlib.Core.Path.{sym, ap, _∙_}
+use lib.Dec.{leb}
+use lib.IntN.{natAbs}
+use mir.Syntax.{w32}
+use mir.Val.{SFits}
+use mir.Facts.{toZ-ofZ}
+use borrow.Author.Needs.{needs}
+use Rattle.record.specs.Record.{offsetInRange}
+use Rattle.record.proofs.range.offset_in_range.Statement.{statement}
+use Rattle.record.proofs.range.offset_in_range.Tie as tie
+
+enum-told : tie.Need-enum-told
+enum-told c = search needs
+
+enum-known-offset : tie.Need-enum-known-offset
+enum-known-offset c = search needs
+
+magnitude-requires : tie.Need-magnitude-requires
+magnitude-requires c κs = search needs
+
+returns : tie.Need-returns
+unfolding offsetInRange
+returns c = search needs
+
+returns-2 : tie.Need-returns-2
+unfolding offsetInRange
+returns-2 c =
+    let fits : SFits w32 (c .before .before .offset .given .0 .0) = search needs in
+    ap (λ n. leb n 840) (c .magnitude .ensures ∙ ap natAbs (toZ-ofZ fits)) ∙ sym (ap offsetInRange (c .before .before .offset .given .1))
+
+pub offset-in-range-spec : {M : Type 1} → statement M
+offset-in-range-spec =
+    tie.close (tie.spec enum-told enum-known-offset magnitude-requires returns returns-2)

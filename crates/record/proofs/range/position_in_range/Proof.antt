@@ -1,0 +1,42 @@
+-- Latitude and longitude are numbers of 32 bits, so their magnitudes are tested against the bounds of the definition.
+use mir.Syntax.{w32}
+use mir.Val.{SFits}
+use mir.Facts.{toZ-ofZ}
+use borrow.Author.Needs.{needs}
+use Rattle.record.specs.Record.{positionInRange}
+use Rattle.record.proofs.range.position_in_range.Statement.{statement}
+use Rattle.record.proofs.range.position_in_range.Tie as tie
+
+enum-told : tie.Need-enum-told
+enum-told c = search needs
+
+enum-known-position : tie.Need-enum-known-position
+enum-known-position c = search needs
+
+magnitude-requires : tie.Need-magnitude-requires
+magnitude-requires c κs = search needs
+
+magnitude-requires-2 : tie.Need-magnitude-requires-2
+magnitude-requires-2 c κs = search needs
+
+returns : tie.Need-returns
+unfolding positionInRange
+returns c = search needs
+
+returns-2 : tie.Need-returns-2
+unfolding positionInRange
+returns-2 c =
+    let latitude : SFits w32 (c .before .before .before .position .given .0 .0) = search needs in
+    let longitude : SFits w32 (c .before .before .before .position .given .0 .1 .0) = search needs in
+    simp (c .magnitude2 .ensures, c .before .magnitude .ensures, toZ-ofZ latitude, toZ-ofZ longitude, c .before .before .before .position .given .1)
+
+pub position-in-range-spec : {M : Type 1} → statement M
+position-in-range-spec =
+    tie.close
+    (tie.spec
+    enum-told
+    enum-known-position
+    magnitude-requires
+    magnitude-requires-2
+    returns
+    returns-2)

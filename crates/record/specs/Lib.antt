@@ -1,0 +1,4 @@
+pub mod Sign
+pub mod Record
+pub mod Refusal
+pub mod Answers

@@ -1,0 +1,33 @@
+-- "The numbers of refusal": the paper's number of each case.
+use Prim.Native.Nat.{ℕ}
+use Rattle.record.specs.declared.refusal.Refusal.{Refusal}
+use Rattle.record.specs.declared.refusal.Refusal.the-variants as refusal
+
+abbrev pub numberOf : Refusal → ℕ
+-- "form is not 1..9 (search, new listener: not 1..7)"
+numberOf refusal.UnknownForm = 1
+-- "input length is not the form's"
+numberOf refusal.WrongLength = 2
+-- "a fixed byte, digit, letter, padding, mark, always-zero element, key or spelling is wrong, or a frame element off the
+-- marks is not 0 or 1"
+numberOf refusal.WrongByte = 3
+-- "a number is outside its range"
+numberOf refusal.OutOfRange = 4
+-- "parts disagree"
+numberOf refusal.Disagreement = 5
+-- "SPA sum or frame parity is wrong"
+numberOf refusal.WrongSum = 6
+-- "writer: the record is bad"
+numberOf refusal.BadRecord = 7
+-- "writer: a carried field is absent or of the other kind"
+numberOf refusal.MissingField = 8
+-- "writer: form 1 with change and leap both yes; form 8 with an offset not a multiple of 30"
+numberOf refusal.NotExpressible = 9
+-- "writer: the buffer is shorter than the output"
+numberOf refusal.ShortBuffer = 10
+-- "listener state: form not 1..7, more than n-1 bytes kept, or a distance over n"
+numberOf refusal.BadState = 11
+-- "search: no valid string lies wholly at or after the given start"
+numberOf refusal.NotFound = 12
+-- "listener: a valid string ends fewer than n bytes after the last one handed out"
+numberOf refusal.Overlap = 13

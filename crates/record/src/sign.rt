@@ -1,0 +1,30 @@
+// A signed number as the strings spell it: a sign and a magnitude.
+ghost use mathlib.Core.Path.{_≡_};
+ghost use Prim.Native.Nat.{_≤_};
+ghost use lib.IntN.{natAbs};
+ghost use Rattle.record.specs.Sign.{isNegative, signed};
+
+pub fn is_negative(z: i32) -> bool
+    ensures { λ r. ⌜ r ≡ isNegative z ⌝ }
+{
+    z < 0
+}
+
+// 64 bits hold the opposite of the least number too.
+pub fn magnitude(z: i32) -> u32
+    ensures { λ r. ⌜ r ≡ natAbs z ⌝ }
+{
+    if z < 0 {
+        (-(z as i64)) as u32
+    } else {
+        z as u32
+    }
+}
+
+// Zero has no sign.
+pub fn signed_number(negative: bool, n: u32) -> i32
+    requires { ⌜ n ≤ 2147483647 ⌝ }
+    ensures { λ r. ⌜ r ≡ signed negative n ⌝ }
+{
+    if negative { -(n as i32) } else { n as i32 }
+}

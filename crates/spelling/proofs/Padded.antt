@@ -1,0 +1,123 @@
+-- Digits with spaces for leading zeros spell each number that the digits do, and only once.
+use mathlib.Core.Path.{_≡_, refl, _∙_, ap}
+use mathlib.Core.Bool.{Bool, true, false, _&&_, false≢true}
+use mathlib.Core.List.{List, [], _∷_}
+use Prim.Native.Nat.{ℕ, suc, _+_, _-_, _*_, _/_, _%_, _^_, _≤_, _<_}
+use native.Mathlib.Nat.{mod-eq-of-lt, div-eq-of-lt, pow-suc}
+use native.Mathlib.Omega.{arith}
+use borrow.Author.Tests.{ne-eqb, eqb-true, eqb-false, le-leb, leb-true}
+use lib.Dec.{eqb, leb}
+use lib.ListN.{length}
+use Rattle.choice.specs.Pick.{pick}
+use Rattle.choice.proofs.Tests.{both}
+use Rattle.spelling.specs.Bytes.{allAre, areDigits, arePadded, blanked, decimal, digitOf, isDigit, number, numberIn, spelledIn}
+use Rattle.spelling.proofs.Base.{decimals, digit-range, spelled-length, spelled-number, number-lt}
+
+pub blanked-length : (bs : List ℕ) → length (blanked bs) ≡ length bs
+unfolding blanked
+blanked-length [] = refl
+blanked-length (b ∷ []) = refl
+blanked-length (b ∷ c ∷ bs) = go (eqb b 48) (blanked-length (c ∷ bs))
+  where
+    go : (t : Bool) → length (blanked (c ∷ bs)) ≡ suc (length bs)
+        → length (pick t (32 ∷ blanked (c ∷ bs)) (b ∷ c ∷ bs)) ≡ suc (suc (length bs))
+    go true i = ap suc i
+    go false i = refl
+
+pub number-blanked : (bs : List ℕ) → number (blanked bs) ≡ number bs
+unfolding blanked numberIn
+number-blanked [] = refl
+number-blanked (b ∷ []) = refl
+number-blanked (b ∷ c ∷ bs) = go (eqb b 48) refl (number-blanked (c ∷ bs))
+  where
+    go : (t : Bool) → eqb b 48 ≡ t → number (blanked (c ∷ bs)) ≡ number (c ∷ bs)
+        → number (pick t (32 ∷ blanked (c ∷ bs)) (b ∷ c ∷ bs)) ≡ (b - 48) * 10 ^ length (c ∷ bs) + number (c ∷ bs)
+    go true e i =
+        let z : b ≡ 48 = eqb-true b 48 e in
+        ap (λ (n : ℕ). 0 * 10 ^ length (blanked (c ∷ bs)) + n) i ∙ rw z (omega arith)
+    go false e i = refl
+
+space-padded : (x : List ℕ) → arePadded x ≡ true → arePadded (32 ∷ x) ≡ true
+unfolding arePadded
+space-padded [] h = absurd (false≢true h)
+space-padded (c ∷ cs) h = h
+
+pub blanked-padded : (b : ℕ) (bs : List ℕ) → areDigits (b ∷ bs) ≡ true → arePadded (blanked (b ∷ bs)) ≡ true
+unfolding blanked arePadded allAre
+blanked-padded b [] h = both (isDigit b) true h .0
+blanked-padded b (c ∷ bs) h = go (eqb b 48) refl (blanked-padded c bs (both (isDigit b) (areDigits (c ∷ bs)) h .1))
+  where
+    go : (t : Bool) → eqb b 48 ≡ t → arePadded (blanked (c ∷ bs)) ≡ true → arePadded (pick t (32 ∷ blanked (c ∷ bs)) (b ∷ c ∷ bs)) ≡ true
+    go true e i = space-padded (blanked (c ∷ bs)) i
+    go false e i =
+        let d = both (isDigit b) (areDigits (c ∷ bs)) h in
+        let r = digit-range b (d .0) in
+        let n : b ≡ 48 → ⊥ = eqb-false b 48 e in
+        simp (ne-eqb b 32 (λ q. omega arith), le-leb 49 b (omega arith), le-leb b 57 (omega arith), d .1)
+
+-- a number that the digits behind the first one hold has 0 for its first
+high-zero : (w n : ℕ) → n < 10 ^ w → decimal (suc w) n ≡ 48 ∷ decimal w n
+unfolding spelledIn
+high-zero w n h =
+    let q : n / 10 ^ w ≡ 0 = div-eq-of-lt h in
+    let r : n % 10 ^ w ≡ n = mod-eq-of-lt h in
+    simp (q, r)
+
+pub blank-zero : (x : List ℕ) (w : ℕ) → length x ≡ suc w → blanked (48 ∷ x) ≡ 32 ∷ blanked x
+unfolding blanked
+blank-zero [] w h = absurd (omega (arith, h))
+blank-zero (c ∷ cs) w h = refl
+
+pub blanked-other : (b : ℕ) (bs : List ℕ) → (b ≡ 48 → ⊥) → blanked (b ∷ bs) ≡ b ∷ bs
+unfolding blanked
+blanked-other b [] h = refl
+blanked-other b (c ∷ bs) h = simp (ne-eqb b 48 h)
+
+pub blanked-short : (x : List ℕ) → length x ≤ 1 → blanked x ≡ x
+unfolding blanked
+blanked-short [] h = refl
+blanked-short (b ∷ []) h = refl
+blanked-short (b ∷ c ∷ bs) h = absurd (omega (arith, h))
+
+abbrev Padded : List ℕ → Type 0
+Padded bs = (blanked (decimal (length bs) (number bs)) ≡ bs) × (number bs < 10 ^ length bs)
+
+digits-padded : (b c : ℕ) (bs : List ℕ) → (49 ≤ b) × (b ≤ 57) → areDigits (c ∷ bs) ≡ true → Padded (b ∷ c ∷ bs)
+digits-padded b c bs r h =
+    let d : areDigits (b ∷ c ∷ bs) ≡ true = unfold allAre in simp (le-leb 48 b (omega arith), le-leb b 57 (omega arith)) h in
+    let k : blanked (b ∷ c ∷ bs) ≡ b ∷ c ∷ bs = blanked-other b (c ∷ bs) (λ q. omega arith) in
+    (ap blanked (spelled-number decimals (b ∷ c ∷ bs) d) ∙ k, number-lt decimals (b ∷ c ∷ bs) d)
+
+space-number : (x : List ℕ) → number (32 ∷ x) ≡ number x
+unfolding numberIn
+space-number x = omega arith
+
+space-both : (x : List ℕ) (w : ℕ) → length x ≡ suc w → Padded x → Padded (32 ∷ x)
+space-both x w l h =
+    let n = space-number x in
+    let e : decimal (suc (length x)) (number (32 ∷ x)) ≡ 48 ∷ decimal (length x) (number x) = ap (decimal (suc (length x))) n ∙ high-zero (length x) (number x) (h .1) in
+    let f : blanked (48 ∷ decimal (length x) (number x)) ≡ 32 ∷ blanked (decimal (length x) (number x)) = blank-zero _ w (spelled-length 10 digitOf (length x) (number x) ∙ l) in
+    (ap blanked e ∙ f ∙ ap (λ (y : List ℕ). 32 ∷ y) (h .0), rw (n, pow-suc) (omega (arith, h .1)))
+
+padded-both : (bs : List ℕ) → arePadded bs ≡ true → Padded bs
+unfolding arePadded
+padded-both [] h = absurd (false≢true h)
+padded-both (b ∷ []) h =
+    let d : areDigits (b ∷ []) ≡ true = unfold allAre in simp h in
+    let k : blanked (b ∷ []) ≡ b ∷ [] = unfold blanked in refl in
+    (ap blanked (spelled-number decimals (b ∷ []) d) ∙ k, number-lt decimals (b ∷ []) d)
+padded-both (b ∷ c ∷ bs) h = go (eqb b 32) refl h (padded-both (c ∷ bs))
+  where
+    go : (t : Bool) → eqb b 32 ≡ t → pick t (arePadded (c ∷ bs)) ((leb 49 b && leb b 57) && areDigits (c ∷ bs)) ≡ true
+        → (arePadded (c ∷ bs) ≡ true → Padded (c ∷ bs)) → Padded (b ∷ c ∷ bs)
+    go true e g i = rw (eqb-true b 32 e) (space-both (c ∷ bs) (length bs) refl (i g))
+    go false e g i =
+        let q = both (leb 49 b && leb b 57) (areDigits (c ∷ bs)) g in
+        let r = both (leb 49 b) (leb b 57) (q .0) in
+        digits-padded b c bs (leb-true 49 b (r .0), leb-true b 57 (r .1)) (q .1)
+
+pub padded-number : (bs : List ℕ) → arePadded bs ≡ true → blanked (decimal (length bs) (number bs)) ≡ bs
+padded-number bs h = padded-both bs h .0
+
+pub padded-lt : (bs : List ℕ) → arePadded bs ≡ true → number bs < 10 ^ length bs
+padded-lt bs h = padded-both bs h .1
