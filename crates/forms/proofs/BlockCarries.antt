@@ -1,0 +1,66 @@
+-- What a row chosen for the block carries, by its choices.
+use mathlib.Core.Path.{_≡_, refl, _∙_, ap, subst}
+use mathlib.Core.Bool.{Bool, true, false}
+use mathlib.Core.List.{List, []}
+use Prim.Native.Nat.{ℕ, _<_}
+use Prim.Native.String.{String}
+use lib.Dec.{lit<}
+use lib.ListN.{length, getD}
+use Rattle.choice.specs.Pick.{pick}
+use Rattle.forms.specs.Block.{Line, blockLines, chosenRow, flagLine}
+use Rattle.forms.specs.Carries.{carriesOf, inMinutes, isCarried, isOffset, noFlag, noOffset, ownLetter}
+use Rattle.forms.specs.Places.{has}
+use Rattle.forms.specs.Slots.{Slot, halfHour, minus, month, notice, ordinal, quality, south, tenMillionth, thousandth, year, zone}
+use Rattle.forms.proofs.BlockRow.{absent, found}
+use Rattle.forms.proofs.Choices.{dateIn, flag-has, fractionIn, isTold, second-has}
+use Rattle.forms.proofs.Lines.{choice-lt, everyLayout, everyLine, isChoice, onlyIn}
+
+own-carried : (b : Bool) → isCarried (pick b ownLetter noFlag) ≡ b
+own-carried true = refl
+own-carried false = refl
+
+offset-carried : (b : Bool) → isOffset (pick b inMinutes noOffset) ≡ b
+offset-carried true = refl
+offset-carried false = refl
+
+module _ (cs : List ℕ) (o : isChoice blockLines cs ≡ true) where
+  -- what a chosen row carries, by its choices
+  pub record Laid : Type 0 where
+    pub date : carriesOf (chosenRow blockLines cs) .date ≡ dateIn (getD cs 0 0)
+    pub fraction : carriesOf (chosenRow blockLines cs) .fraction ≡ fractionIn (getD cs 2 0)
+    pub channel : carriesOf (chosenRow blockLines cs) .channel ≡ isTold (getD cs 3 0)
+    pub sync : isCarried (carriesOf (chosenRow blockLines cs) .sync) ≡ isTold (getD cs 4 0)
+    pub fix : isCarried (carriesOf (chosenRow blockLines cs) .fix) ≡ isTold (getD cs 5 0)
+    pub utc : isCarried (carriesOf (chosenRow blockLines cs) .utc) ≡ isTold (getD cs 6 0)
+    pub summer : isCarried (carriesOf (chosenRow blockLines cs) .summer) ≡ isTold (getD cs 7 0)
+    pub change : isCarried (carriesOf (chosenRow blockLines cs) .change) ≡ isTold (getD cs 8 0)
+    pub leap : isCarried (carriesOf (chosenRow blockLines cs) .leap) ≡ isTold (getD cs 9 0)
+    pub offset : isOffset (carriesOf (chosenRow blockLines cs) .offset) ≡ isTold (getD cs 10 0)
+    pub position : carriesOf (chosenRow blockLines cs) .position ≡ isTold (getD cs 11 0)
+    pub dsp : isCarried (carriesOf (chosenRow blockLines cs) .dsp) ≡ isTold (getD cs 12 0)
+    pub lsp : isCarried (carriesOf (chosenRow blockLines cs) .lsp) ≡ isTold (getD cs 13 0)
+
+  flag-in : (i : ℕ) → i < length blockLines → (key : String) (f : Slot) → onlyIn blockLines i f ≡ true → getD blockLines i [] ≡ flagLine key f
+      → has (chosenRow blockLines cs) f ≡ isTold (getD cs i 0)
+  flag-in i b key f p e =
+      found cs o i f p ∙ ap (λ (l : Line). has (getD l (getD cs i 0) []) f) e
+      ∙ flag-has key f (getD cs i 0) (subst (λ (l : Line). getD cs i 0 < length l) e (choice-lt blockLines cs o i b))
+
+  pub laid : Laid
+  unfolding carriesOf everyLine everyLayout onlyIn has
+  laid =
+      record {
+        date = rw (found cs o 0 month refl, found cs o 0 year refl, found cs o 0 ordinal refl);
+        fraction = rw (found cs o 2 thousandth refl, found cs o 2 tenMillionth refl);
+        channel = found cs o 3 Slot.channel refl ∙ second-has _ _ Slot.channel (getD cs 3 0) refl refl (choice-lt blockLines cs o 3 (lit< tt));
+        sync = rw (absent cs o quality refl, flag-in 4 (lit< tt) "sync=" Slot.sync refl refl) (own-carried _);
+        fix = rw (flag-in 5 (lit< tt) "fix=" Slot.fix refl refl) (own-carried _);
+        utc = rw (absent cs o zone refl, flag-in 6 (lit< tt) "utc=" Slot.utc refl refl) (own-carried _);
+        summer = rw (absent cs o zone refl, flag-in 7 (lit< tt) "summer=" Slot.summer refl refl) (own-carried _);
+        change = rw (absent cs o notice refl, flag-in 8 (lit< tt) "change=" Slot.change refl refl) (own-carried _);
+        leap = rw (absent cs o notice refl, flag-in 9 (lit< tt) "leap=" Slot.leap refl refl) (own-carried _);
+        offset = rw (absent cs o halfHour refl, found cs o 10 minus refl, second-has _ _ minus (getD cs 10 0) refl refl (choice-lt blockLines cs o 10 (lit< tt))) (offset-carried _);
+        position = found cs o 11 south refl ∙ second-has _ _ south (getD cs 11 0) refl refl (choice-lt blockLines cs o 11 (lit< tt));
+        dsp = rw (flag-in 12 (lit< tt) "dsp=" Slot.dsp refl refl) (own-carried _);
+        lsp = rw (flag-in 13 (lit< tt) "lsp=" Slot.lsp refl refl) (own-carried _);
+      }

@@ -1,0 +1,121 @@
+-- A record and the block's rows: its own choices make a row that takes and keeps the whole record, and a row that does so is
+-- made by its own choices.
+use mathlib.Core.Path.{_≡_, refl, sym, _∙_, ap, subst}
+use mathlib.Core.Bool.{Bool, true}
+use mathlib.Core.List.{List, [], _∷_}
+use Prim.Native.Nat.{ℕ, zero, suc, _+_, _≤_, _<_}
+use Prim.Native.String.{String}
+use native.Mathlib.Omega.{arith}
+use lib.Dec.{lit<}
+use lib.ListN.{length, getD, drop}
+use lib.Seq.{drop-cons, drop-length}
+use Rattle.choice.specs.Pick.{oneIf}
+use Rattle.record.specs.declared.Flag.{Flag}
+use Rattle.record.specs.declared.Record.{Record}
+use Rattle.record.specs.Record.{isGood, isYes}
+use Rattle.forms.specs.Block.{Line, blockLines, choices, chosenRow, flagChoice, flagLine}
+use Rattle.forms.specs.Carries.{Carries, carriesOf}
+use Rattle.forms.specs.Kept.{kept, keptFlag}
+use Rattle.forms.specs.Needs.{hasAll, hasFlag}
+use Rattle.forms.specs.Places.{allWorded, rowWidth}
+use Rattle.forms.specs.Slots.{Slot, change, dsp, fix, leap, lsp, minus, south, summer, sync, utc, west, zone}
+use Rattle.forms.specs.Told.{told}
+use Rattle.forms.proofs.Append.{width-append, worded-append}
+use Rattle.forms.proofs.BlockCarries.{laid}
+use Rattle.forms.proofs.Bounds.{good, told-lt}
+use Rattle.forms.proofs.Choices.{channel-among, channel-choice, channel-taken, channel-width, channel-worded, date-among, date-choice, date-taken, date-width, date-worded, flag-among, flag-choice, flag-taken, flag-width, flag-worded, fraction-among, fraction-choice, fraction-taken, fraction-width, fraction-worded, isTold, offset-among, offset-choice, offset-taken, offset-width, offset-worded, position-among, position-choice, position-taken, position-width, position-worded}
+use Rattle.forms.proofs.Needs.{all-of}
+use Rattle.forms.proofs.Lines.{choice-length, choice-lt, isChoice, worded-in}
+
+-- the elements of a list from i on
+unfoldable elements : ℕ → ℕ → List ℕ → List ℕ
+elements i zero cs = []
+elements i (suc n) cs = getD cs i 0 ∷ elements (suc i) n cs
+
+listed : (i n : ℕ) (cs : List ℕ) → i + n ≡ length cs → elements i n cs ≡ drop i cs
+unfolding elements
+listed i zero cs e =
+    let q : i ≡ length cs = omega arith in
+    sym (ap (λ (k : ℕ). drop k cs) q ∙ drop-length cs)
+listed i (suc n) cs e = ap (λ (t : List ℕ). getD cs i 0 ∷ t) (listed (suc i) n cs (omega arith)) ∙ sym (drop-cons cs i 0 (omega arith))
+
+module _ (r : Record) where
+  pub own-choice : isChoice blockLines (choices r) ≡ true
+  unfolding isChoice
+  own-choice =
+      simp (date-among (r .date), fraction-among (r .fraction), channel-among (r .channel), flag-among, offset-among (r .offset), position-among (r .position))
+
+  -- the row takes the whole record
+  pub own-complete : hasAll (carriesOf (chosenRow blockLines (choices r))) r ≡ true
+  unfolding hasAll
+  own-complete =
+      let t = laid (choices r) own-choice in
+      simp (t .date, date-taken (r .date) .0, t .fraction, fraction-taken (r .fraction) .0, t .channel, channel-taken (r .channel) .0, t .sync, flag-taken (r .sync) .0, t .fix, flag-taken (r .fix) .0, t .utc, flag-taken (r .utc) .0, t .summer, flag-taken (r .summer) .0, t .change, flag-taken (r .change) .0, t .leap, flag-taken (r .leap) .0, t .offset, offset-taken (r .offset) .0, t .position, position-taken (r .position) .0, t .dsp, flag-taken (r .dsp) .0, t .lsp, flag-taken (r .lsp) .0)
+
+  -- the row keeps the whole record
+  pub own-kept : kept (carriesOf (chosenRow blockLines (choices r))) r ≡ r
+  unfolding kept
+  own-kept =
+      let t = laid (choices r) own-choice in
+      simp (t .date, date-taken (r .date) .1, t .fraction, fraction-taken (r .fraction) .1, t .channel, channel-taken (r .channel) .1, t .sync, flag-taken (r .sync) .1, t .fix, flag-taken (r .fix) .1, t .utc, flag-taken (r .utc) .1, t .summer, flag-taken (r .summer) .1, t .change, flag-taken (r .change) .1, t .leap, flag-taken (r .leap) .1, t .offset, offset-taken (r .offset) .1, t .position, position-taken (r .position) .1, t .dsp, flag-taken (r .dsp) .1, t .lsp, flag-taken (r .lsp) .1)
+
+  -- each word list of the row has a word for the record
+  pub own-worded : isGood r ≡ true → allWorded (chosenRow blockLines (choices r)) (told r) ≡ true
+  unfolding chosenRow allWorded
+  own-worded g =
+      let below = told-lt r (good r g) in
+      simp (worded-append, date-worded (r .date), fraction-worded (r .fraction), channel-worded (r .channel), flag-worded "sync=" sync (r .sync) (told r) refl, flag-worded "fix=" fix (r .fix) (told r) refl, flag-worded "utc=" utc (r .utc) (told r) refl, flag-worded "summer=" summer (r .summer) (told r) refl, flag-worded "change=" change (r .change) (told r) refl, flag-worded "leap=" leap (r .leap) (told r) refl, offset-worded (r .offset) (told r) (below minus), position-worded (r .position) (told r) (below south) (below west), flag-worded "dsp=" dsp (r .dsp) (told r) refl, flag-worded "lsp=" lsp (r .lsp) (told r) refl)
+
+  -- "118..174"
+  pub own-size : isGood r ≡ true → (118 ≤ rowWidth (chosenRow blockLines (choices r))) × (rowWidth (chosenRow blockLines (choices r)) ≤ 174)
+  unfolding chosenRow rowWidth
+  own-size g =
+      let x1 = date-width (r .date) in
+      let x2 = fraction-width (r .fraction) in
+      let x3 = channel-width (r .channel) in
+      let x4 = flag-width "sync=" sync (r .sync) in
+      let x5 = flag-width "fix=" fix (r .fix) in
+      let x6 = flag-width "utc=" utc (r .utc) in
+      let x7 = flag-width "summer=" summer (r .summer) in
+      let x8 = flag-width "change=" change (r .change) in
+      let x9 = flag-width "leap=" leap (r .leap) in
+      let x10 = offset-width (r .offset) in
+      let x11 = position-width (r .position) in
+      let x12 = flag-width "dsp=" dsp (r .dsp) in
+      let x13 = flag-width "lsp=" lsp (r .lsp) in
+      let z = told-lt r (good r g) zone in
+      let x14 : oneIf (isYes (r .utc)) + oneIf (isYes (r .summer)) ≤ 1 = omega arith in
+      simp width-append (omega arith)
+
+-- what a row takes and keeps whole has chosen it
+
+module _ (cs : List ℕ) (o : isChoice blockLines cs ≡ true) (r : Record) (w : allWorded (chosenRow blockLines cs) (told r) ≡ true) where
+  flag-own : (i : ℕ) → i < length blockLines → (key : String) (f : Slot) → getD blockLines i [] ≡ flagLine key f → (b : Bool) → b ≡ isTold (getD cs i 0)
+      → (x : Flag) → hasFlag b x ≡ true → keptFlag b x ≡ x → told r f ≡ oneIf (isYes x) → flagChoice x ≡ getD cs i 0
+  flag-own i l key f e b q x h k v =
+      flag-choice key f (getD cs i 0) x (told r) (subst (λ (m : Line). getD cs i 0 < length m) e (choice-lt blockLines cs o i l)) (rw q at h) (rw q at k)
+      (subst (λ (m : Line). allWorded (getD m (getD cs i 0) []) (told r) ≡ true) e (worded-in blockLines cs (told r) w o i)) v
+
+  pub own-choices : hasAll (carriesOf (chosenRow blockLines cs)) r ≡ true → kept (carriesOf (chosenRow blockLines cs)) r ≡ r → choices r ≡ cs
+  unfolding kept elements
+  own-choices h k =
+      let carried : Carries = carriesOf (chosenRow blockLines cs) in
+      let t = laid cs o in
+      let below = choice-lt blockLines cs o in
+      let a = all-of carried r h in
+      let c0 = date-choice (getD cs 0 0) (r .date) (below 0 (lit< tt)) (rw (t .date) at (a .date)) (rw (t .date) at (ap (λ (q : Record). q .date) k)) in
+      let c1 : 0 ≡ getD cs 1 0 = omega (arith, below 1 (lit< tt)) in
+      let c2 = fraction-choice (getD cs 2 0) (r .fraction) (below 2 (lit< tt)) (rw (t .fraction) at (a .fraction)) (rw (t .fraction) at (ap (λ (q : Record). q .fraction) k)) in
+      let c3 = channel-choice (getD cs 3 0) (r .channel) (below 3 (lit< tt)) (rw (t .channel) at (a .channel)) (rw (t .channel) at (ap (λ (q : Record). q .channel) k)) in
+      let c4 = flag-own 4 (lit< tt) "sync=" sync refl _ (t .sync) (r .sync) (a .sync) (ap (λ (q : Record). q .sync) k) refl in
+      let c5 = flag-own 5 (lit< tt) "fix=" fix refl _ (t .fix) (r .fix) (a .fix) (ap (λ (q : Record). q .fix) k) refl in
+      let c6 = flag-own 6 (lit< tt) "utc=" utc refl _ (t .utc) (r .utc) (a .utc) (ap (λ (q : Record). q .utc) k) refl in
+      let c7 = flag-own 7 (lit< tt) "summer=" summer refl _ (t .summer) (r .summer) (a .summer) (ap (λ (q : Record). q .summer) k) refl in
+      let c8 = flag-own 8 (lit< tt) "change=" change refl _ (t .change) (r .change) (a .change) (ap (λ (q : Record). q .change) k) refl in
+      let c9 = flag-own 9 (lit< tt) "leap=" leap refl _ (t .leap) (r .leap) (a .leap) (ap (λ (q : Record). q .leap) k) refl in
+      let c10 = offset-choice (getD cs 10 0) (r .offset) (below 10 (lit< tt)) (rw (t .offset) at (a .offset)) (rw (t .offset) at (ap (λ (q : Record). q .offset) k)) in
+      let c11 = position-choice (getD cs 11 0) (r .position) (below 11 (lit< tt)) (rw (t .position) at (a .position)) (rw (t .position) at (ap (λ (q : Record). q .position) k)) in
+      let c12 = flag-own 12 (lit< tt) "dsp=" dsp refl _ (t .dsp) (r .dsp) (a .dsp) (ap (λ (q : Record). q .dsp) k) refl in
+      let c13 = flag-own 13 (lit< tt) "lsp=" lsp refl _ (t .lsp) (r .lsp) (a .lsp) (ap (λ (q : Record). q .lsp) k) refl in
+      let whole : elements 0 14 cs ≡ cs = listed 0 14 cs (sym (choice-length blockLines cs o)) in
+      cc

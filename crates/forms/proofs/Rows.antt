@@ -1,0 +1,183 @@
+-- A row of places: what it writes is read back, and what it accepts is written again.
+use mathlib.Core.Path.{_≡_, refl, sym, _∙_, ap}
+use mathlib.Core.Bool.{Bool, true, false, not, _&&_, _||_, false≢true}
+use mathlib.Core.List.{List, [], _∷_, _++_, append-assoc}
+use Prim.Native.Nat.{ℕ, _+_, _≤_, _<_}
+use native.Mathlib.Nat.{add-comm}
+use native.Mathlib.Omega.{arith}
+use borrow.Author.Tests.{not-true}
+use lib.ListN.{length, take, drop, length-append, length-drop, take-append-drop}
+use lib.Seq.{take-at, drop-at, drop-drop, drop-length, length-take-le}
+use Rattle.choice.specs.Pick.{pick}
+use Rattle.forms.specs.Places.{Place, Row, bytesOf, fits, fixed, has, isOf, part, placed, rowWidth, shape, valueAt, values, width}
+use Rattle.forms.specs.Slots.{Slot, Values, same}
+use Rattle.spelling.specs.Spelling.{spell, spelledWidth, valueOf}
+use Rattle.choice.proofs.Tests.{both, other}
+use Rattle.forms.proofs.Slots.{same-slot, slot-self}
+use Rattle.spelling.proofs.SameBytes.{same-bytes, same-self}
+use Rattle.spelling.proofs.Spelling.{can-lt, canSpell, isSound, limit, spell-is, spell-length, spell-value, value-lt, value-spell}
+
+abbrev pub soundPlace : Place → Bool
+soundPlace (fixed bs) = true
+soundPlace (part c f) = isSound c
+
+unfoldable pub soundRow : Row → Bool
+soundRow [] = true
+soundRow (p ∷ ps) = soundPlace p && soundRow ps
+
+-- what v tells has room
+abbrev pub roomy : Place → Values → Bool
+roomy (fixed bs) v = true
+roomy (part c f) v = canSpell c (v f)
+
+unfoldable pub roomyRow : Row → Values → Bool
+roomyRow [] v = true
+roomyRow (p ∷ ps) v = roomy p v && roomyRow ps v
+
+pub placed-length : (p : Place) (v : Values) → soundPlace p ≡ true → roomy p v ≡ true → length (placed p v) ≡ width p
+placed-length (fixed bs) v h r = refl
+placed-length (part c f) v h r = spell-length (v f) c h r
+
+pub bytes-length : (ps : Row) (v : Values) → soundRow ps ≡ true → roomyRow ps v ≡ true → length (bytesOf ps v) ≡ rowWidth ps
+unfolding bytesOf rowWidth soundRow roomyRow
+bytes-length [] v h r = refl
+bytes-length (p ∷ ps) v h r =
+    let a = both (soundPlace p) (soundRow ps) h in
+    let b = both (roomy p v) (roomyRow ps v) r in
+    length-append (placed p v) (bytesOf ps v) ∙ omega (arith, placed-length p v (a .0) (b .0), bytes-length ps v (a .1) (b .1))
+
+placed-fits : (p : Place) (v : Values) → soundPlace p ≡ true → roomy p v ≡ true → fits p (placed p v) ≡ true
+placed-fits (fixed bs) v h r = same-self bs
+placed-fits (part c f) v h r = spell-is (v f) c h r
+
+-- what v tells of the row's slots
+abbrev pub shown : Row → Values → Values
+shown ps v f = pick (has ps f) (v f) 0
+
+placed-value : (p : Place) (ps : Row) (v : Values) (f : Slot) (n : ℕ) → soundPlace p ≡ true → roomy p v ≡ true → n ≡ shown ps v f
+    → pick (isOf f p) (valueAt p (placed p v)) n ≡ pick (isOf f p || has ps f) (v f) 0
+placed-value (fixed bs) ps v f n h r e = e
+placed-value (part c g) ps v f n h r e = go (same f g) refl
+  where
+    go : (t : Bool) → same f g ≡ t → pick t (valueOf c (spell c (v g))) n ≡ pick (t || has ps f) (v f) 0
+    go true q = spell-value (v g) c h r ∙ ap v (sym (same-slot f g q))
+    go false q = e
+
+piece : (front x back s : List ℕ) (k w : ℕ) → length front ≡ k → length x ≡ w → s ≡ front ++ (x ++ back) → take w (drop k s) ≡ x
+piece front x back s k w l m e = ap (λ (t : List ℕ). take w (drop k t)) e ∙ ap (take w) (drop-at front (x ++ back) k l) ∙ take-at x back w m
+
+-- what a row wrote is read back, shape and values
+pub row-read : (ps : Row) (k : ℕ) (v : Values) (front back s : List ℕ) → length front ≡ k → s ≡ front ++ (bytesOf ps v ++ back)
+    → soundRow ps ≡ true → roomyRow ps v ≡ true → (shape ps k s ≡ true) × ((f : Slot) → values ps k s f ≡ shown ps v f)
+unfolding bytesOf soundRow roomyRow values shape has
+row-read [] k v front back s l e h r = (refl, λ f. refl)
+row-read (p ∷ ps) k v front back s l e h r =
+    let a = both (soundPlace p) (soundRow ps) h in
+    let b = both (roomy p v) (roomyRow ps v) r in
+    let m = placed-length p v (a .0) (b .0) in
+    let g : take (width p) (drop k s) ≡ placed p v = piece front (placed p v) (bytesOf ps v ++ back) s k (width p) l m (e ∙ simp append-assoc) in
+    let next : length (front ++ placed p v) ≡ width p + k = length-append front (placed p v) ∙ omega arith in
+    let there = row-read ps (width p + k) v (front ++ placed p v) back s next (e ∙ simp append-assoc) (a .1) (b .1) in (
+      simp (g, placed-fits p v (a .0) (b .0), there .0),
+      λ f. ap (λ (x : List ℕ). pick (isOf f p) (valueAt p x) (values ps (width p + k) s f)) g ∙ placed-value p ps v f (values ps (width p + k) s f) (a .0) (b .0) (there .1 f),
+    )
+
+-- no slot has two places
+abbrev pub apart : Place → Row → Bool
+apart (fixed bs) ps = true
+apart (part c f) ps = not (has ps f)
+
+unfoldable pub apartRow : Row → Bool
+apartRow [] = true
+apartRow (p ∷ ps) = apart p ps && apartRow ps
+
+module _ (k : ℕ) (s : List ℕ) where
+  pub piece-length : (w : ℕ) → k + w ≤ length s → length (take w (drop k s)) ≡ w
+  piece-length w h = length-take-le w (drop k s) (omega (arith, length-drop k s))
+
+  place-write : (p : Place) (ps : Row) (v : Values) → soundPlace p ≡ true → roomy p v ≡ true → fits p (take (width p) (drop k s)) ≡ true
+      → k + width p ≤ length s → ((f : Slot) → has (p ∷ ps) f ≡ true → v f ≡ values (p ∷ ps) k s f) → placed p v ≡ take (width p) (drop k s)
+  unfolding has values
+  place-write (fixed bs) ps v o r h l e = sym (same-bytes _ _ h)
+  place-write (part c g) ps v o r h l e =
+      let x : List ℕ = take (spelledWidth c) (drop k s) in
+      let q : v g ≡ valueOf c x = e g (simp (slot-self g)) ∙ simp (slot-self g) in
+      ap (spell c) q ∙ value-spell x c o (piece-length (spelledWidth c) l) h (ap (canSpell c) (sym q) ∙ r)
+
+  -- the row behind the first place tells its own slots
+  pub behind : (p : Place) (ps : Row) (f : Slot) → apart p ps ≡ true → has ps f ≡ true
+      → (has (p ∷ ps) f ≡ true) × (values (p ∷ ps) k s f ≡ values ps (width p + k) s f)
+  unfolding has values
+  behind (fixed bs) ps f a h = (h, refl)
+  behind (part c g) ps f a h = go (same f g) refl
+    where
+      go : (t : Bool) → same f g ≡ t
+          → ((t || has ps f) ≡ true) × (pick t (valueOf c (take (spelledWidth c) (drop k s))) (values ps (spelledWidth c + k) s f) ≡ values ps (spelledWidth c + k) s f)
+      go true q = absurd (false≢true (sym (not-true (has ps g) a) ∙ ap (has ps) (sym (same-slot f g q)) ∙ h))
+      go false q = (h, refl)
+
+-- what a row accepts, its values spell again
+pub row-write : (ps : Row) (k : ℕ) (s : List ℕ) (v : Values) → soundRow ps ≡ true → roomyRow ps v ≡ true → apartRow ps ≡ true → shape ps k s ≡ true
+    → k + rowWidth ps ≡ length s → ((f : Slot) → has ps f ≡ true → v f ≡ values ps k s f) → bytesOf ps v ≡ drop k s
+unfolding bytesOf rowWidth apartRow shape soundRow roomyRow
+row-write [] k s v o r a h l e =
+    let q : k ≡ length s = omega arith in
+    sym (ap (λ (n : ℕ). drop n s) q ∙ drop-length s)
+row-write (p ∷ ps) k s v o r a h l e =
+    let i = both (soundPlace p) (soundRow ps) o in
+    let j = both (roomy p v) (roomyRow ps v) r in
+    let q = both (apart p ps) (apartRow ps) a in
+    let b = both (fits p (take (width p) (drop k s))) (shape ps (width p + k) s) h in
+    let here = place-write k s p ps v (i .0) (j .0) (b .0) (omega arith) e in
+    let there =
+    row-write ps (width p + k) s v (i .1) (j .1) (q .1) (b .1) (omega arith) (λ f y. let z = behind k s p ps f (q .0) y in e f (z .0) ∙ z .1) in
+    let seam : take (width p) (drop k s) ++ drop (width p + k) s ≡ drop k s =
+    ap (λ (n : ℕ). take (width p) (drop k s) ++ drop n s) (add-comm (width p) k)
+    ∙ ap (λ (t : List ℕ). take (width p) (drop k s) ++ t) (sym (drop-drop (width p) k s))
+    ∙ take-append-drop (width p) (drop k s) in
+    simp (here, there) seam
+
+-- the limit of a slot's spelling
+abbrev pub placeLimit : Place → ℕ
+placeLimit (fixed bs) = 0
+placeLimit (part c f) = limit c
+
+unfoldable pub limitOf : Row → Slot → ℕ
+limitOf [] f = 0
+limitOf (p ∷ ps) f = pick (isOf f p) (placeLimit p) (limitOf ps f)
+
+place-lt : (p : Place) (x : List ℕ) (f : Slot) (n m : ℕ) → soundPlace p ≡ true → length x ≡ width p → fits p x ≡ true → (isOf f p ≡ false → n < m)
+    → pick (isOf f p) (valueAt p x) n < pick (isOf f p) (placeLimit p) m
+place-lt (fixed bs) x f n m o l h i = i refl
+place-lt (part c g) x f n m o l h i = go (same f g) i
+  where
+    go : (t : Bool) → (t ≡ false → n < m) → pick t (valueOf c x) n < pick t (limit c) m
+    go true i = value-lt x c o l h
+    go false i = i refl
+
+-- what a row tells stays below the limit
+pub values-lt : (ps : Row) (k : ℕ) (s : List ℕ) (f : Slot) → soundRow ps ≡ true → shape ps k s ≡ true → k + rowWidth ps ≤ length s → has ps f ≡ true
+    → values ps k s f < limitOf ps f
+unfolding has values limitOf shape rowWidth soundRow
+values-lt [] k s f o h l i = absurd (false≢true i)
+values-lt (p ∷ ps) k s f o h l i =
+    let a = both (soundPlace p) (soundRow ps) o in
+    let b = both (fits p (take (width p) (drop k s))) (shape ps (width p + k) s) h in
+    place-lt p (take (width p) (drop k s)) f (values ps (width p + k) s f) (limitOf ps f) (a .0) (piece-length k s (width p) (omega arith)) (b .0)
+    (λ e. values-lt ps (width p + k) s f (a .1) (b .1) (omega arith) (other (isOf f p) (has ps f) i e))
+
+-- what has room stays below the limit
+room-lt : (p : Place) (v : Values) (f : Slot) (m : ℕ) → roomy p v ≡ true → (isOf f p ≡ false → v f < m) → v f < pick (isOf f p) (placeLimit p) m
+room-lt (fixed bs) v f m h i = i refl
+room-lt (part c g) v f m h i = go (same f g) refl i
+  where
+    go : (t : Bool) → same f g ≡ t → (t ≡ false → v f < m) → v f < pick t (limit c) m
+    go true q i = rw (same-slot f g q) (can-lt (v g) c h)
+    go false q i = i refl
+
+pub roomy-lt : (ps : Row) (v : Values) (f : Slot) → roomyRow ps v ≡ true → has ps f ≡ true → v f < limitOf ps f
+unfolding has limitOf roomyRow
+roomy-lt [] v f h i = absurd (false≢true i)
+roomy-lt (p ∷ ps) v f h i =
+    let b = both (roomy p v) (roomyRow ps v) h in
+    room-lt p v f (limitOf ps f) (b .0) (λ e. roomy-lt ps v f (b .1) (other (isOf f p) (has ps f) i e))

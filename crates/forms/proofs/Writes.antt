@@ -1,0 +1,47 @@
+-- The writer's answer, test by test, over any form: each writer cites these in the order 7, 8, 9, 10.
+use mathlib.Core.Path.{_≡_, sym, _∙_}
+use mathlib.Core.Bool.{true, false}
+use mathlib.Core.List.{List, _++_}
+use Prim.Native.Nat.{ℕ, _≤_, _<_}
+use borrow.Author.Tests.{le-leb, lt-leb}
+use lib.ListN.{length, drop}
+use Rattle.record.specs.declared.Record.{Record}
+use Rattle.record.specs.declared.answer.Writing.the-variants as writing
+use Rattle.record.specs.declared.refusal.Refusal.{Refusal}
+use Rattle.record.specs.declared.refusal.Refusal.the-variants as refusal
+use Rattle.record.specs.Record.{isGood}
+use Rattle.forms.specs.Form.{Form, Wrote, bytesBy, carries, writeBy}
+use Rattle.forms.specs.Needs.{hasAll}
+use Rattle.forms.specs.Places.{allWorded}
+use Rattle.forms.specs.Told.{told}
+use Rattle.forms.proofs.Keeps.{left-refused, left-written}
+
+module _ (d : Form) (r : Record) (o : List ℕ) where
+  refused : (x : Refusal) → writeBy d r (length o) ≡ writing.Refused x → Wrote d r (writing.Refused x) o o
+  refused x h = record { answer = sym h; left = sym (left-refused d r o x h) }
+
+  pub bad-record : isGood r ≡ false → Wrote d r (writing.Refused refusal.BadRecord) o o
+  unfolding writeBy
+  bad-record g = refused refusal.BadRecord (simp g)
+
+  module _ (g : isGood r ≡ true) where
+    pub missing-field : hasAll (carries d) r ≡ false → Wrote d r (writing.Refused refusal.MissingField) o o
+    unfolding writeBy
+    missing-field h = refused refusal.MissingField (simp (g, h))
+
+    module _ (h : hasAll (carries d) r ≡ true) where
+      pub not-expressible : allWorded (d .row) (told r) ≡ false → Wrote d r (writing.Refused refusal.NotExpressible) o o
+      unfolding writeBy
+      not-expressible w = refused refusal.NotExpressible (simp (g, h, w))
+
+      module _ (w : allWorded (d .row) (told r) ≡ true) where
+        pub short-buffer : length o < d .size → Wrote d r (writing.Refused refusal.ShortBuffer) o o
+        unfolding writeBy
+        short-buffer l = refused refusal.ShortBuffer (simp (g, h, w, lt-leb (d .size) (length o) l))
+
+        pub written-as : (after : List ℕ) → d .size ≤ length o → after ≡ bytesBy d (told r) ++ drop (d .size) o
+            → Wrote d r (writing.Written (d .size)) o after
+        unfolding writeBy
+        written-as after l e =
+            let a : writeBy d r (length o) ≡ writing.Written (d .size) = simp (g, h, w, le-leb (d .size) (length o) l) in
+            record { answer = sym a; left = e ∙ sym (left-written d r o (d .size) a) }

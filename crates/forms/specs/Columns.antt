@@ -1,0 +1,57 @@
+-- The table of the forms: bytes, and the column "carries beside time", its words in the order of the block's lines.
+use mathlib.Core.Bool.{Bool, true, false}
+use mathlib.Core.List.{List, [], _∷_, _++_}
+use mathlib.Core.Path.{_≡_}
+use Prim.Native.Nat.{ℕ}
+use Prim.Native.String.{String}
+use Rattle.forms.specs.Carries.{Carries, DateKind, FractionKind, fullDate, isCarried, isOffset, noDate, noFraction, ordinalDate, tenMillionths, thousandths, yearAndDay}
+use Rattle.forms.specs.Form.{Form, carries}
+use Rattle.forms.specs.Frame.{frame}
+use Rattle.forms.specs.Serial.{capture, computime, erlangen, racal, spa, standard, sysplex}
+
+-- the table's word for the date
+abbrev pub dateWord : DateKind → List String
+dateWord noDate = []
+dateWord fullDate = "full date" ∷ []
+dateWord yearAndDay = "full date" ∷ []
+dateWord ordinalDate = "day of year" ∷ []
+
+-- the table's word for the fraction
+abbrev pub fractionWord : FractionKind → List String
+fractionWord noFraction = []
+fractionWord thousandths = "thousandths" ∷ []
+fractionWord tenMillionths = "ten-millionths" ∷ []
+
+-- a word where the field is carried
+abbrev pub wordIf : Bool → String → List String
+wordIf true w = w ∷ []
+wordIf false w = []
+
+-- the column of what a form carries
+abbrev pub column : Carries → List String
+column k =
+    dateWord (k .date) ++ fractionWord (k .fraction) ++ wordIf (k .channel) "channel" ++ wordIf (isCarried (k .sync)) "sync"
+    ++ wordIf (isCarried (k .fix)) "fix"
+    ++ wordIf (isCarried (k .utc)) "utc"
+    ++ wordIf (isCarried (k .summer)) "summer"
+    ++ wordIf (isCarried (k .change)) "change"
+    ++ wordIf (isCarried (k .leap)) "leap"
+    ++ wordIf (isOffset (k .offset)) "offset"
+    ++ wordIf (k .position) "position"
+    ++ wordIf (isCarried (k .dsp)) "dsp"
+    ++ wordIf (isCarried (k .lsp)) "lsp"
+
+-- a line of the table
+abbrev pub Line : Form → ℕ → List String → Type 0
+Line d bytes words = (d .size ≡ bytes) × (column (carries d) ≡ words)
+
+-- the table as document 01 has it, for the forms of one length
+pub record Table : Type 0 where
+  pub one : Line standard 32 ("full date" ∷ "sync" ∷ "fix" ∷ "utc" ∷ "summer" ∷ "change" ∷ "leap" ∷ [])
+  pub two : Line capture 31 ("full date" ∷ "ten-millionths" ∷ "channel" ∷ [])
+  pub three : Line erlangen 66 ("full date" ∷ "sync" ∷ "fix" ∷ "summer" ∷ "change" ∷ "leap" ∷ "offset" ∷ "position" ∷ [])
+  pub four : Line spa 32 ("full date" ∷ "thousandths" ∷ [])
+  pub five : Line racal 16 ("full date" ∷ [])
+  pub six : Line sysplex 16 ("day of year" ∷ "sync" ∷ [])
+  pub seven : Line computime 24 ("full date" ∷ [])
+  pub eight : Line frame 100 ("full date" ∷ "sync" ∷ "summer" ∷ "offset" ∷ "dsp" ∷ "lsp" ∷ [])

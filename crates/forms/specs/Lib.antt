@@ -1,0 +1,16 @@
+pub mod Slots
+pub mod Places
+pub mod Carries
+pub mod Spelled
+pub mod Told
+pub mod Needs
+pub mod Kept
+pub mod Form
+pub mod Serial
+pub mod Frame
+pub mod Block
+pub mod Forms
+pub mod Bench
+pub mod Demand2
+pub mod Start
+pub mod Columns

@@ -1,0 +1,105 @@
+-- A form's row of places: how many bytes each takes, what may stand there, and the value that it spells.
+use mathlib.Core.Bool.{Bool, true, false, _&&_, _||_}
+use mathlib.Core.List.{List, [], _∷_, _++_}
+use Prim.Native.Nat.{ℕ, _+_}
+use Prim.Native.String.{String}
+use lib.Dec.{eqb, ltb}
+use lib.ListN.{length, take, drop}
+use Rattle.choice.specs.Pick.{pick}
+use Rattle.spelling.specs.Bytes.{letters, sameBytes, text}
+use Rattle.spelling.specs.Spelling.{Spelling, bits, digits, grouped, hex, isSpelled, padded, spell, spelledWidth, valueOf, word, words}
+use Rattle.forms.specs.Slots.{Slot, Values, same}
+
+-- a place is fixed bytes or the spelling of a slot
+pub data Place : Type 0 where
+  fixed : List ℕ → Place
+  part : Spelling → Slot → Place
+
+-- a layout is a row of places
+abbrev pub Row : Type 0
+Row = List Place
+
+-- the bytes of a place
+abbrev pub width : Place → ℕ
+width (fixed bs) = length bs
+width (part c f) = spelledWidth c
+
+-- the bytes of a row
+unfoldable pub rowWidth : Row → ℕ
+rowWidth [] = 0
+rowWidth (p ∷ ps) = width p + rowWidth ps
+
+-- these bytes may stand at the place
+abbrev pub fits : Place → List ℕ → Bool
+fits (fixed bs) x = sameBytes x bs
+fits (part c f) x = isSpelled c x
+
+-- "a fixed byte, digit, letter, padding, mark, always-zero element, key or spelling is wrong" where this is false; the
+-- row's first byte is byte k
+unfoldable pub shape : Row → ℕ → List ℕ → Bool
+shape [] k s = true
+shape (p ∷ ps) k s = fits p (take (width p) (drop k s)) && shape ps (width p + k) s
+
+-- the place spells the slot
+abbrev pub isOf : Slot → Place → Bool
+isOf f (fixed bs) = false
+isOf f (part c g) = same f g
+
+-- the row has a place for the slot
+unfoldable pub has : Row → Slot → Bool
+has [] f = false
+has (p ∷ ps) f = isOf f p || has ps f
+
+-- the number that the bytes of a place spell
+abbrev pub valueAt : Place → List ℕ → ℕ
+valueAt (fixed bs) x = 0
+valueAt (part c g) x = valueOf c x
+
+-- what the bytes from k on tell for a slot, 0 where the row has no place for it
+unfoldable pub values : Row → ℕ → List ℕ → Values
+values [] k s f = 0
+values (p ∷ ps) k s f = pick (isOf f p) (valueAt p (take (width p) (drop k s))) (values ps (width p + k) s f)
+
+-- the bytes of a place where v is told
+abbrev pub placed : Place → Values → List ℕ
+placed (fixed bs) v = bs
+placed (part c f) v = spell c (v f)
+
+-- the bytes of a row that tells v
+unfoldable pub bytesOf : Row → Values → List ℕ
+bytesOf [] v = []
+bytesOf (p ∷ ps) v = placed p v ++ bytesOf ps v
+
+-- a word of the list is there for what v tells
+abbrev pub worded : Place → Values → Bool
+worded (fixed bs) v = true
+worded (part (digits w) f) v = true
+worded (part (hex w) f) v = true
+worded (part (padded w) f) v = true
+worded (part (bits w) f) v = true
+worded (part (grouped b gs) f) v = true
+worded (part (words w ws) f) v = ltb (v f) (length ws)
+worded (part (word m bs) f) v = eqb (v f) m
+
+-- each word list of the row has a word for what v tells
+unfoldable pub allWorded : Row → Values → Bool
+allWorded [] v = true
+allWorded (p ∷ ps) v = worded p v && allWorded ps v
+
+-- the places as the layouts write them
+
+-- fixed bytes, quoted
+abbrev pub lit : String → Place
+lit t = fixed (text t)
+
+-- one digit
+abbrev pub one : Slot → Place
+one f = part (digits 1) f
+
+-- two digits
+abbrev pub two : Slot → Place
+two f = part (digits 2) f
+
+-- one of the quoted letters; the first means 0
+abbrev pub letter : Slot → String → Place
+letter f t = part (words 1 (letters (text t))) f

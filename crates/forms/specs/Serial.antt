@@ -1,0 +1,86 @@
+-- The seven serial forms: their layouts, as document 01 writes them.
+use mathlib.Core.List.{List, [], _∷_}
+use Rattle.spelling.specs.Spelling.{digits, hex, padded}
+use Rattle.forms.specs.Form.{Form, noSum, xorSum}
+use Rattle.forms.specs.Places.{Row, letter, lit, one, part, two}
+use Rattle.forms.specs.Slots.{altitude, change, channel, day, fix, hour, latitudeDegrees, latitudePart, leap, leapSecond, longitudeDegrees, longitudePart, minus, minute, month, notice, offsetHours, offsetMinutes, ordinal, second, south, sum, summer, sync, tenMillionth, thousandth, weekday, west, year, zone}
+
+-- 1. `<STX>D:dd.mm.yy;T:w;U:hh.mm.ss;uvxy<ETX>`
+abbrev pub standardRow : Row
+standardRow =
+    lit "\u{2}D:" ∷ two day ∷ lit "." ∷ two month ∷ lit "." ∷ two year ∷ lit ";T:" ∷ one weekday ∷ lit ";U:"
+    ∷ two hour ∷ lit "." ∷ two minute ∷ lit "." ∷ two second ∷ lit ";"
+    ∷ letter sync "# " ∷ letter fix "* " ∷ letter zone " SU" ∷ letter notice " A!" ∷ lit "\u{3}" ∷ []
+
+-- full date, sync, fix, utc, summer, change, leap
+abbrev pub standard : Form
+standard = record { size = 32; row = standardRow; sum = noSum }
+
+-- 2. `CHx dd.mm.yy hh:mm:ss.fffffff<CR><LF>`
+abbrev pub captureRow : Row
+captureRow =
+    lit "CH" ∷ one channel ∷ lit " " ∷ two day ∷ lit "." ∷ two month ∷ lit "." ∷ two year ∷ lit " "
+    ∷ two hour ∷ lit ":" ∷ two minute ∷ lit ":" ∷ two second ∷ lit "." ∷ part (digits 7) tenMillionth ∷ lit "\r\n" ∷ []
+
+-- full date, ten-millionths, channel
+abbrev pub capture : Form
+capture = record { size = 31; row = captureRow; sum = noSum }
+
+-- 3. `<STX>dd.mm.yy; w; hh:mm:ss; voo:oo; acdfg i;bbb.bbbbn lll.lllle hhhhm<ETX>`
+abbrev pub erlangenRow : Row
+erlangenRow =
+    lit "\u{2}" ∷ two day ∷ lit "." ∷ two month ∷ lit "." ∷ two year ∷ lit "; " ∷ one weekday ∷ lit "; "
+    ∷ two hour ∷ lit ":" ∷ two minute ∷ lit ":" ∷ two second ∷ lit "; "
+    ∷ letter minus "+-" ∷ two offsetHours ∷ lit ":" ∷ two offsetMinutes ∷ lit "; "
+    ∷ letter sync "# " ∷ letter fix "* " ∷ letter summer " S" ∷ letter change " !" ∷ letter leap " A" ∷ lit " "
+    ∷ letter leapSecond " L" ∷ lit ";"
+    ∷ part (padded 3) latitudeDegrees ∷ lit "." ∷ part (digits 4) latitudePart ∷ letter south "NS" ∷ lit " "
+    ∷ part (padded 3) longitudeDegrees ∷ lit "." ∷ part (digits 4) longitudePart ∷ letter west "EW" ∷ lit " "
+    ∷ part (padded 4) altitude ∷ lit "m\u{3}" ∷ []
+
+-- full date, offset, sync, fix, summer, change, leap, position
+abbrev pub erlangen : Form
+erlangen = record { size = 66; row = erlangenRow; sum = noSum }
+
+-- 4. `>900WD:yy-mm-dd hh.mm;ss.fff:cc<CR>`, "cc is the exclusive-or of all 29 bytes before it"
+abbrev pub spaRow : Row
+spaRow =
+    lit ">900WD:" ∷ two year ∷ lit "-" ∷ two month ∷ lit "-" ∷ two day ∷ lit " "
+    ∷ two hour ∷ lit "." ∷ two minute ∷ lit ";" ∷ two second ∷ lit "." ∷ part (digits 3) thousandth ∷ lit ":"
+    ∷ part (hex 2) sum ∷ lit "\r" ∷ []
+
+-- full date, thousandths
+abbrev pub spa : Form
+spa = record { size = 32; row = spaRow; sum = xorSum 0 29 }
+
+-- 5. `XGUyymmddhhmmss<CR>`
+abbrev pub racalRow : Row
+racalRow = lit "XGU" ∷ two year ∷ two month ∷ two day ∷ two hour ∷ two minute ∷ two second ∷ lit "\r" ∷ []
+
+-- full date
+abbrev pub racal : Form
+racal = record { size = 16; row = racalRow; sum = noSum }
+
+-- 6. `<SOH>ddd:hh:mm:ssq<CR><LF>`
+abbrev pub sysplexRow : Row
+sysplexRow =
+    lit "\u{1}" ∷ part (digits 3) ordinal ∷ lit ":" ∷ two hour ∷ lit ":" ∷ two minute ∷ lit ":" ∷ two second
+    ∷ letter sync "? " ∷ lit "\r\n" ∷ []
+
+-- day of year, sync
+abbrev pub sysplex : Form
+sysplex = record { size = 16; row = sysplexRow; sum = noSum }
+
+-- 7. `T:yy:mm:dd:ww:hh:mm:ss<CR><LF>`
+abbrev pub computimeRow : Row
+computimeRow =
+    lit "T:" ∷ two year ∷ lit ":" ∷ two month ∷ lit ":" ∷ two day ∷ lit ":" ∷ two weekday ∷ lit ":"
+    ∷ two hour ∷ lit ":" ∷ two minute ∷ lit ":" ∷ two second ∷ lit "\r\n" ∷ []
+
+-- full date
+abbrev pub computime : Form
+computime = record { size = 24; row = computimeRow; sum = noSum }
+
+-- the forms 1 to 7 in order
+abbrev pub serial : List Form
+serial = standard ∷ capture ∷ erlangen ∷ spa ∷ racal ∷ sysplex ∷ computime ∷ []
