@@ -1,0 +1,31 @@
+-- The number in the field is one of 32 bits, so the call sees it as it is.
+use mathlib.Core.Path.{sym, ap, _∙_}
+use Rattle.record.specs.Sign.{isNegative}
+use mir.Facts.{toZ-ofZ}
+use mir.Syntax.{w32}
+use mir.Val.{SFits}
+use Rattle.fields.specs.Signs.{isSouth}
+use borrow.Author.Needs.{needs}
+use Rattle.fields.proofs.is_south.Statement.{statement}
+use Rattle.fields.proofs.is_south.Tie as tie
+
+enum-told : tie.Need-enum-told
+enum-told c = search needs
+
+enum-known-position : tie.Need-enum-known-position
+enum-known-position c = search needs
+
+is-negative-requires : tie.Need-is-negative-requires
+is-negative-requires c κs = search needs
+
+returns : tie.Need-returns
+returns c = search needs
+
+returns-2 : tie.Need-returns-2
+returns-2 c =
+    let fits : SFits w32 (c .before .before .position .given .0 .0) = search needs in
+    c .is-negative .ensures ∙ ap isNegative (toZ-ofZ fits) ∙ sym (ap isSouth (c .before .before .position .given .1))
+
+pub is-south-spec : {M : Type 1} → statement M
+is-south-spec =
+    tie.close (tie.spec enum-told enum-known-position is-negative-requires returns returns-2)

@@ -1,0 +1,31 @@
+-- The number in the field is one of 32 bits, so the call sees it as it is.
+use mathlib.Core.Path.{sym, ap, _∙_}
+use lib.IntN.{natAbs}
+use mir.Facts.{toZ-ofZ}
+use mir.Syntax.{w32}
+use mir.Val.{SFits}
+use Rattle.forms.specs.Told.{latitudeTold}
+use borrow.Author.Needs.{needs}
+use Rattle.fields.proofs.latitude_of.Statement.{statement}
+use Rattle.fields.proofs.latitude_of.Tie as tie
+
+enum-told : tie.Need-enum-told
+enum-told c = search needs
+
+enum-known-position : tie.Need-enum-known-position
+enum-known-position c = search needs
+
+magnitude-requires : tie.Need-magnitude-requires
+magnitude-requires c κs = search needs
+
+returns : tie.Need-returns
+returns c = search needs
+
+returns-2 : tie.Need-returns-2
+returns-2 c =
+    let fits : SFits w32 (c .before .before .position .given .0 .0) = search needs in
+    c .magnitude .ensures ∙ ap natAbs (toZ-ofZ fits) ∙ sym (ap latitudeTold (c .before .before .position .given .1))
+
+pub latitude-of-spec : {M : Type 1} → statement M
+latitude-of-spec =
+    tie.close (tie.spec enum-told enum-known-position magnitude-requires returns returns-2)

@@ -1,0 +1,31 @@
+-- The number in the field is one of 32 bits, so the call sees it as it is.
+use mathlib.Core.Path.{sym, ap, _∙_}
+use lib.IntN.{natAbs}
+use mir.Facts.{toZ-ofZ}
+use mir.Syntax.{w32}
+use mir.Val.{SFits}
+use Rattle.forms.specs.Told.{minutesTold}
+use borrow.Author.Needs.{needs}
+use Rattle.fields.proofs.minutes_of.Statement.{statement}
+use Rattle.fields.proofs.minutes_of.Tie as tie
+
+enum-told : tie.Need-enum-told
+enum-told c = search needs
+
+enum-known-offset : tie.Need-enum-known-offset
+enum-known-offset c = search needs
+
+magnitude-requires : tie.Need-magnitude-requires
+magnitude-requires c κs = search needs
+
+returns : tie.Need-returns
+returns c = search needs
+
+returns-2 : tie.Need-returns-2
+returns-2 c =
+    let fits : SFits w32 (c .before .before .offset .given .0 .0) = search needs in
+    c .magnitude .ensures ∙ ap natAbs (toZ-ofZ fits) ∙ sym (ap minutesTold (c .before .before .offset .given .1))
+
+pub minutes-of-spec : {M : Type 1} → statement M
+minutes-of-spec =
+    tie.close (tie.spec enum-told enum-known-offset magnitude-requires returns returns-2)

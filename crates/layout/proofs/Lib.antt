@@ -1,0 +1,4 @@
+pub mod Part
+pub mod Letters
+pub mod Stored
+pub mod Weekday

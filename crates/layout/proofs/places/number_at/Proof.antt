@@ -1,0 +1,31 @@
+-- The part handed on is as wide as asked, so its number and its bound are those of the place.
+use borrow.Author.Needs.{needs}
+use denote.Ref.{now}
+use Rattle.layout.proofs.Part.{part, part-length}
+use Rattle.layout.proofs.places.number_at.Statement.{statement}
+use Rattle.layout.proofs.places.number_at.Tie as tie
+
+add-end : tie.Need-add-end
+add-end c = search needs
+
+sub-number : tie.Need-sub-number
+sub-number c = search needs
+
+part-number-start : tie.Need-part-number-start
+part-number-start c = search needs
+
+part-number-end : tie.Need-part-number-end
+part-number-end c = search needs
+
+number-requires : tie.Need-number-requires
+number-requires c κs = search needs
+
+returns : tie.Need-returns
+returns c =
+    let a = c .before .before .before .args in
+    (simp (part (now (a .s)) (a .at) (a .w)) at (c .number .ensures .0), rw (part-length (now (a .s)) (a .at) (a .w) (c .before .before .before .pre .0)) at (c .number .ensures .1))
+
+pub number-at-spec : {M : Type 1} → statement M
+number-at-spec =
+    tie.close
+    (tie.spec add-end sub-number part-number-start part-number-end number-requires returns)

@@ -1,0 +1,31 @@
+-- The calendar answers a number exactly for a date.
+use mathlib.Core.Path.{sym, _∙_}
+use Rattle.calendar.specs.Calendar.{isDate, weekdayOf}
+use Rattle.fields.proofs.Dates.{none-agrees, number-agrees}
+use borrow.Author.Needs.{needs}
+use Rattle.layout.proofs.ties.weekday_agrees.Statement.{statement}
+use Rattle.layout.proofs.ties.weekday_agrees.Tie as tie
+
+weekday-requires : tie.Need-weekday-requires
+weekday-requires c κs = search needs
+
+enum-known-told : tie.Need-enum-known-told
+enum-known-told c = search needs
+
+enum-told : tie.Need-enum-told
+enum-told c = search needs
+
+returns : tie.Need-returns
+returns c =
+    let a = c .before .before .before .before .args in
+    number-agrees (isDate (a .year) (a .month) (a .day)) (weekdayOf (a .year) (a .month) (a .day)) (c .before .told .given .0 .0) (a .weekday)
+    (sym (c .before .before .before .weekday .ensures) ∙ c .before .told .given .1)
+
+returns-2 : tie.Need-returns-2
+returns-2 c =
+    let a = c .before .before .before .args in
+    none-agrees (isDate (a .year) (a .month) (a .day)) _ (weekdayOf (a .year) (a .month) (a .day)) (sym (c .before .before .weekday .ensures) ∙ c .enum-told .given .1)
+
+pub weekday-agrees-spec : {M : Type 1} → statement M
+weekday-agrees-spec =
+    tie.close (tie.spec weekday-requires enum-known-told enum-told returns returns-2)
