@@ -1,0 +1,167 @@
+// The Capture string, form 2: `CHx dd.mm.yy hh:mm:ss.fffffff<CR><LF>`.
+ghost use mathlib.Core.Path.{_≡_};
+ghost use Prim.Native.Nat.{_≤_};
+ghost use lib.ListN.{length};
+ghost use Rattle.forms.specs.Form.{Wrote, carries, readBy, valuesBy};
+ghost use Rattle.forms.specs.Needs.{hasAll};
+ghost use Rattle.forms.specs.Places.{shape};
+ghost use Rattle.forms.specs.Serial.{capture, captureRow};
+ghost use Rattle.forms.specs.Spelled.{recordFrom};
+ghost use Rattle.forms.specs.Told.{told};
+ghost use Rattle.layout.specs.Stores.{stores};
+ghost use Rattle.capture.specs.Rows.{dateRow, timeRow};
+use record::Channel;
+use record::Date;
+use record::Flag;
+use record::Fraction;
+use record::Offset;
+use record::Position;
+use record::Record;
+use record::answer::Reading;
+use record::answer::Writing;
+use record::refusal::Refusal;
+
+fn has_shape(s: &[u8]) -> bool
+    requires { ⌜ length (now s) ≡ 31 ⌝ }
+    ensures { λ r. ⌜ r ≡ shape captureRow 0 (now (s .entry)) ⌝ }
+{
+    layout::text_at(s, 0, b"CH")
+        & (layout::digits_at(s, 2, 1)
+            & (layout::is_at(s, 3, b' ')
+                & (layout::pairs_at(s, 4, b'.')
+                    & (layout::is_at(s, 12, b' ')
+                        & (layout::pairs_at(s, 13, b':')
+                            & (layout::is_at(s, 21, b'.')
+                                & (layout::digits_at(s, 22, 7)
+                                    & layout::text_at(s, 29, b"\r\n"))))))))
+}
+
+// Any digit spells a channel: its range is tested with the record's.
+fn spelled(s: &[u8]) -> Record
+    requires { ⌜ length (now s) ≡ 31 ⌝ }
+    ensures { λ r. ⌜ r ≡ recordFrom (carries capture) (valuesBy capture (now (s .entry))) ⌝ }
+{
+    Record {
+        hour: layout::number_at(s, 13, 2),
+        minute: layout::number_at(s, 16, 2),
+        second: layout::number_at(s, 19, 2),
+        date: Date::Full {
+            year: layout::number_at(s, 10, 2),
+            month: layout::number_at(s, 7, 2),
+            day: layout::number_at(s, 4, 2),
+        },
+        fraction: Fraction::TenMillionths(layout::number_at(s, 22, 7)),
+        channel: Channel::Number(layout::number_at(s, 2, 1)),
+        sync: Flag::Absent,
+        fix: Flag::Absent,
+        utc: Flag::Absent,
+        summer: Flag::Absent,
+        change: Flag::Absent,
+        leap: Flag::Absent,
+        offset: Offset::Absent,
+        position: Position::Absent,
+        dsp: Flag::Absent,
+        lsp: Flag::Absent,
+    }
+}
+
+fn read_whole(s: &[u8]) -> Reading
+    ensures { λ r. ⌜ r ≡ readBy capture (now (s .entry)) ⌝ }
+{
+    if s.len() != 31 {
+        return Reading::Refused(Refusal::WrongLength);
+    }
+    if has_shape(s) {
+        let r = spelled(s);
+        if r.in_range() {
+            Reading::Read(r)
+        } else {
+            Reading::Refused(Refusal::OutOfRange)
+        }
+    } else {
+        Reading::Refused(Refusal::WrongByte)
+    }
+}
+
+// A wrong length or first byte is refused before anything else is looked at.
+pub fn read(s: &[u8]) -> Reading
+    ensures { λ r. ⌜ r ≡ readBy capture (now (s .entry)) ⌝ }
+{
+    if s.len() == 31 {
+        if s[0] == b'C' {
+            return read_whole(s);
+        }
+        return Reading::Refused(Refusal::WrongByte);
+    }
+    Reading::Refused(Refusal::WrongLength)
+}
+
+// Thousandths do not serve: a fraction is never converted.
+fn has_fields(r: Record) -> bool
+    ensures { λ b. ⌜ b ≡ hasAll (carries capture) r ⌝ }
+{
+    let date = r.date;
+    let fraction = r.fraction;
+    let channel = r.channel;
+    fields::has_full_date(date)
+        & (fields::has_ten_millionths(fraction) & fields::has_channel(channel))
+}
+
+// `CHx dd.mm.yy`
+fn store_date(r: Record, out: &mut [u8])
+    requires { ⌜ 31 ≤ length (now out) ⌝ }
+    ensures { λ _. ⌜ now (out .exit) ≡ stores dateRow 0 (told r) (now (out .entry)) ⌝ }
+{
+    let date = r.date;
+    let channel = r.channel;
+    spelling::put_bytes(out, 0, b"CH");
+    spelling::put_digits(out, 2, 1, fields::channel_of(channel));
+    spelling::put_byte(out, 3, b' ');
+    layout::put_pairs(
+        out,
+        4,
+        b'.',
+        fields::day_of(date),
+        fields::month_of(date),
+        fields::year_of(date),
+    );
+}
+
+// ` hh:mm:ss.fffffff<CR><LF>`
+fn store_time(r: Record, out: &mut [u8])
+    requires { ⌜ 31 ≤ length (now out) ⌝ }
+    ensures { λ _. ⌜ now (out .exit) ≡ stores timeRow 12 (told r) (now (out .entry)) ⌝ }
+{
+    let fraction = r.fraction;
+    spelling::put_byte(out, 12, b' ');
+    layout::put_pairs(out, 13, b':', r.hour, r.minute, r.second);
+    spelling::put_byte(out, 21, b'.');
+    spelling::put_digits(out, 22, 7, fields::ten_millionths_of(fraction));
+    spelling::put_bytes(out, 29, b"\r\n");
+}
+
+fn store(r: Record, out: &mut [u8])
+    requires { ⌜ 31 ≤ length (now out) ⌝ }
+    ensures { λ _. ⌜ now (out .exit) ≡ stores captureRow 0 (told r) (now (out .entry)) ⌝ }
+{
+    store_date(r, out);
+    store_time(r, out);
+}
+
+pub fn write(r: Record, out: &mut [u8]) -> Writing
+    ensures { λ w. ⌜ Wrote capture r w (now (out .entry)) (now (out .exit)) ⌝ }
+{
+    if r.is_good() {
+        if has_fields(r) {
+            if out.len() < 31 {
+                return Writing::Refused(Refusal::ShortBuffer);
+            }
+            store(r, out);
+            Writing::Written(31)
+        } else {
+            Writing::Refused(Refusal::MissingField)
+        }
+    } else {
+        Writing::Refused(Refusal::BadRecord)
+    }
+}

@@ -1,0 +1,135 @@
+// The RACAL string, form 5: `XGUyymmddhhmmss<CR>`.
+ghost use mathlib.Core.Path.{_≡_};
+ghost use Prim.Native.Nat.{_≤_};
+ghost use lib.ListN.{length};
+ghost use Rattle.forms.specs.Form.{Wrote, carries, readBy, valuesBy};
+ghost use Rattle.forms.specs.Needs.{hasAll};
+ghost use Rattle.forms.specs.Places.{shape};
+ghost use Rattle.forms.specs.Serial.{racal, racalRow};
+ghost use Rattle.forms.specs.Spelled.{recordFrom};
+ghost use Rattle.forms.specs.Told.{told};
+ghost use Rattle.layout.specs.Stores.{stores};
+use record::Channel;
+use record::Date;
+use record::Flag;
+use record::Fraction;
+use record::Offset;
+use record::Position;
+use record::Record;
+use record::answer::Reading;
+use record::answer::Writing;
+use record::refusal::Refusal;
+
+fn has_shape(s: &[u8]) -> bool
+    requires { ⌜ length (now s) ≡ 16 ⌝ }
+    ensures { λ r. ⌜ r ≡ shape racalRow 0 (now (s .entry)) ⌝ }
+{
+    layout::text_at(s, 0, b"XGU")
+        & (layout::digits_at(s, 3, 2)
+            & (layout::digits_at(s, 5, 2)
+                & (layout::digits_at(s, 7, 2)
+                    & (layout::digits_at(s, 9, 2)
+                        & (layout::digits_at(s, 11, 2)
+                            & (layout::digits_at(s, 13, 2) & layout::text_at(s, 15, b"\r")))))))
+}
+
+fn spelled(s: &[u8]) -> Record
+    requires { ⌜ length (now s) ≡ 16 ⌝ }
+    ensures { λ r. ⌜ r ≡ recordFrom (carries racal) (valuesBy racal (now (s .entry))) ⌝ }
+{
+    Record {
+        hour: layout::number_at(s, 9, 2),
+        minute: layout::number_at(s, 11, 2),
+        second: layout::number_at(s, 13, 2),
+        date: Date::Full {
+            year: layout::number_at(s, 3, 2),
+            month: layout::number_at(s, 5, 2),
+            day: layout::number_at(s, 7, 2),
+        },
+        fraction: Fraction::Absent,
+        channel: Channel::Absent,
+        sync: Flag::Absent,
+        fix: Flag::Absent,
+        utc: Flag::Absent,
+        summer: Flag::Absent,
+        change: Flag::Absent,
+        leap: Flag::Absent,
+        offset: Offset::Absent,
+        position: Position::Absent,
+        dsp: Flag::Absent,
+        lsp: Flag::Absent,
+    }
+}
+
+fn read_whole(s: &[u8]) -> Reading
+    ensures { λ r. ⌜ r ≡ readBy racal (now (s .entry)) ⌝ }
+{
+    if s.len() != 16 {
+        return Reading::Refused(Refusal::WrongLength);
+    }
+    if has_shape(s) {
+        let r = spelled(s);
+        if r.in_range() {
+            Reading::Read(r)
+        } else {
+            Reading::Refused(Refusal::OutOfRange)
+        }
+    } else {
+        Reading::Refused(Refusal::WrongByte)
+    }
+}
+
+// A wrong length or first byte is refused before anything else is looked at.
+pub fn read(s: &[u8]) -> Reading
+    ensures { λ r. ⌜ r ≡ readBy racal (now (s .entry)) ⌝ }
+{
+    if s.len() == 16 {
+        if s[0] == b'X' {
+            return read_whole(s);
+        }
+        return Reading::Refused(Refusal::WrongByte);
+    }
+    Reading::Refused(Refusal::WrongLength)
+}
+
+fn has_fields(r: Record) -> bool
+    ensures { λ b. ⌜ b ≡ hasAll (carries racal) r ⌝ }
+{
+    let date = r.date;
+    fields::has_full_date(date)
+}
+
+fn store(r: Record, out: &mut [u8])
+    requires { ⌜ 16 ≤ length (now out) ⌝ }
+    ensures { λ _. ⌜ now (out .exit) ≡ stores racalRow 0 (told r) (now (out .entry)) ⌝ }
+{
+    let date = r.date;
+    spelling::put_bytes(out, 0, b"XGU");
+    layout::put_triple(
+        out,
+        3,
+        fields::year_of(date),
+        fields::month_of(date),
+        fields::day_of(date),
+    );
+    layout::put_triple(out, 9, r.hour, r.minute, r.second);
+    spelling::put_byte(out, 15, b'\r');
+}
+
+pub fn write(r: Record, out: &mut [u8]) -> Writing
+    ensures { λ w. ⌜ Wrote racal r w (now (out .entry)) (now (out .exit)) ⌝ }
+{
+    if r.is_good() {
+        if has_fields(r) {
+            if out.len() < 16 {
+                return Writing::Refused(Refusal::ShortBuffer);
+            }
+            store(r, out);
+            Writing::Written(16)
+        } else {
+            Writing::Refused(Refusal::MissingField)
+        }
+    } else {
+        Writing::Refused(Refusal::BadRecord)
+    }
+}

@@ -1,0 +1,59 @@
+-- The sum taken over the bytes that the buffer holds in front of it is the string's own.
+use mathlib.Core.Path.{_≡_, refl, sym, _∙_, ap}
+use mathlib.Core.Bool.{true}
+use mathlib.Core.List.{List, [], _∷_, _++_, append-assoc}
+use Prim.Native.Nat.{ℕ, _≤_}
+use native.Mathlib.Omega.{arith}
+use lib.ListN.{length, take, drop}
+use lib.Seq.{take-at}
+use Rattle.choice.proofs.Tests.{both}
+use Rattle.record.specs.declared.Record.{Record}
+use Rattle.record.specs.Record.{isGood}
+use Rattle.spelling.specs.Bytes.{xorFrom}
+use Rattle.forms.specs.Form.{bytesBy, sumOf}
+use Rattle.forms.specs.Places.{Row, bytesOf, placed, rowWidth}
+use Rattle.forms.specs.Serial.{spa, spaRow}
+use Rattle.forms.specs.Slots.{Values}
+use Rattle.forms.specs.Told.{told}
+use Rattle.forms.proofs.Rows.{bytes-length, roomy, roomyRow, soundRow}
+use Rattle.forms.proofs.Sound.{sound-form}
+use Rattle.forms.proofs.WriteRead.{written, written-roomy}
+use Rattle.layout.specs.Stores.{stores}
+use Rattle.layout.proofs.Stored.{stores-form, stores-laid}
+use Rattle.spa.specs.Rows.{endRow, endStored, frontRow}
+use Rattle.spa.proofs.Form.{sound, worded-of}
+
+-- the bytes of a row in two pieces
+bytes-append : (ps qs : Row) (v : Values) → bytesOf (ps ++ qs) v ≡ bytesOf ps v ++ bytesOf qs v
+unfolding bytesOf
+bytes-append [] qs v = refl
+bytes-append (p ∷ ps) qs v = ap (λ (x : List ℕ). placed p v ++ x) (bytes-append ps qs v) ∙ sym (append-assoc (placed p v) (bytesOf ps v) (bytesOf qs v))
+
+-- a row's first piece has room where the row has
+roomy-front : (ps qs : Row) (v : Values) → roomyRow (ps ++ qs) v ≡ true → roomyRow ps v ≡ true
+unfolding roomyRow
+roomy-front [] qs v h = refl
+roomy-front (p ∷ ps) qs v h =
+    let a = both (roomy p v) (roomyRow (ps ++ qs) v) h in
+    simp (a .0, roomy-front ps qs v (a .1))
+
+-- a row's first piece, stored at the head of a buffer, stands there as in the row's bytes
+front-bytes : (ps qs : Row) (v : Values) (o : List ℕ) → soundRow ps ≡ true → roomyRow ps v ≡ true → rowWidth ps ≤ length o
+    → take (rowWidth ps) (stores ps 0 v o) ≡ take (rowWidth ps) (bytesOf (ps ++ qs) v)
+front-bytes ps qs v o s m h =
+    let l = bytes-length ps v s m in
+    ap (take (rowWidth ps)) (stores-laid ps 0 v o s m (omega arith)) ∙ take-at (bytesOf ps v) _ (rowWidth ps) l
+    ∙ sym (ap (take (rowWidth ps)) (bytes-append ps qs v) ∙ take-at (bytesOf ps v) (bytesOf qs v) (rowWidth ps) l)
+
+module _ (r : Record) (g : isGood r ≡ true) (o : List ℕ) (h : 32 ≤ length o) where
+  front-roomy : roomyRow frontRow (told r) ≡ true
+  unfolding roomyRow
+  front-roomy = roomy-front frontRow endRow (written spa r) (written-roomy spa (sound-form spa sound) r g (worded-of r))
+
+  front-sum : sumOf (spa .sum) (stores frontRow 0 (told r) o) ≡ sumOf (spa .sum) (bytesOf spaRow (told r))
+  unfolding rowWidth soundRow
+  front-sum = ap (xorFrom 0) (front-bytes frontRow endRow (told r) o refl front-roomy (omega arith))
+
+  pub end-stored : endStored (stores frontRow 0 (told r) o) ≡ bytesBy spa (told r) ++ drop 32 o
+  unfolding stores
+  end-stored = rw front-sum (stores-form spa sound r g (worded-of r) o h)
