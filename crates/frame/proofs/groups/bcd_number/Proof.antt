@@ -1,0 +1,47 @@
+-- Each digit is read at its own place, and the branch is the test of the digits.
+use denote.Ref.{now}
+use lib.Dec.{ltb}
+use borrow.Author.Tests.{ltb-true}
+use Rattle.choice.proofs.Tests.{both}
+use Rattle.frame.proofs.Digits.{bcd-beyond, bcd-told}
+use native.Mathlib.Omega.{arith}
+use borrow.Author.Needs.{needs}
+use Rattle.frame.proofs.groups.bcd_number.Statement.{statement}
+use Rattle.frame.proofs.groups.bcd_number.Tie as tie
+
+number-at-requires : tie.Need-number-at-requires
+number-at-requires c κs = search needs
+
+add-number-at : tie.Need-add-number-at
+add-number-at c = search needs
+
+number-at-requires-2 : tie.Need-number-at-requires-2
+number-at-requires-2 c κs = search needs
+
+mul-result : tie.Need-mul-result
+mul-result c = omega (arith, ltb-true (c .before .number-at2 .result) 10 (both (ltb (c .before .before .number-at .result) 10) _ (c .if1 .taken) .1))
+
+add-result : tie.Need-add-result
+add-result c = omega (arith, ltb-true (c .before .before .number-at .result) 10 (both _ (ltb (c .before .number-at2 .result) 10) (c .if1 .taken) .0), ltb-true (c .before .number-at2 .result) 10 (both (ltb (c .before .before .number-at .result) 10) _ (c .if1 .taken) .1))
+
+returns : tie.Need-returns
+returns c =
+    let a = c .before .before .before .before .args in
+    bcd-told (now (a .s)) (a .at) (a .high) (a .beyond) _ _ (c .before .before .number-at .ensures .0) (c .before .number-at2 .ensures .0) (c .if1 .taken)
+
+returns-2 : tie.Need-returns-2
+returns-2 c =
+    let a = c .before .before .before .before .args in
+    bcd-beyond (now (a .s)) (a .at) (a .high) (a .beyond) _ _ (c .before .before .number-at .ensures .0) (c .before .number-at2 .ensures .0) (c .if1 .left)
+
+pub bcd-number-spec : {M : Type 1} → statement M
+bcd-number-spec =
+    tie.close
+    (tie.spec
+    number-at-requires
+    add-number-at
+    number-at-requires-2
+    mul-result
+    add-result
+    returns
+    returns-2)

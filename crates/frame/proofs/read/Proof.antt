@@ -1,0 +1,26 @@
+-- A string of another length or first byte is refused by its row; any other is read whole.
+use mathlib.Core.Path.{refl, sym}
+use borrow.Author.Needs.{needs}
+use Rattle.forms.specs.Frame.{frame}
+use Rattle.forms.proofs.Tests.{wrong-length, wrong-start}
+use Rattle.frame.proofs.read.Statement.{statement}
+use Rattle.frame.proofs.read.Tie as tie
+
+shared-slice-read-if2 : tie.Need-shared-slice-read-if2
+shared-slice-read-if2 c = search needs
+
+read-whole-requires : tie.Need-read-whole-requires
+read-whole-requires c κs = search needs
+
+returns : tie.Need-returns
+returns c = search needs
+
+returns-2 : tie.Need-returns-2
+returns-2 c = sym (wrong-start frame 2 _ _ refl _ (c .before .before .if1 .taken) (c .if2 .left))
+
+returns-3 : tie.Need-returns-3
+returns-3 c = sym (wrong-length frame _ (c .if1 .left))
+
+pub read-spec : {M : Type 1} → statement M
+read-spec =
+    tie.close (tie.spec shared-slice-read-if2 read-whole-requires returns returns-2 returns-3)

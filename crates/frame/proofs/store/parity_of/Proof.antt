@@ -1,0 +1,75 @@
+-- The loop's invariant: n is the number of ones in the rows passed, at most ten for each.
+use mathlib.Core.Path.{_≡_, refl, _∙_, ap}
+use Prim.Native.Nat.{ℕ, _+_, _-_, _*_, _≤_}
+use lib.ListN.{length, take}
+use Rattle.spelling.specs.Bytes.{ones}
+use Rattle.frame.specs.Tens.{joined}
+use Rattle.frame.proofs.Elements.{ones-next}
+use borrow.Author.Needs.{needs}
+use native.Mathlib.Omega.{arith}
+use Rattle.frame.proofs.store.parity_of.Statement.{statement}
+use Rattle.frame.proofs.store.parity_of.Tie as tie
+
+abbrev Inv-loop : tie.InvT-loop
+Inv-loop rows n₀ i₀ n i = (i ≤ 8) × (n ≤ 10 * i) × (n ≡ ones (joined (take i rows)))
+
+abbrev μ-loop : tie.MeasureT-loop
+μ-loop rows n₀ i₀ n i = 8 - i
+
+loop-holds : tie.Need-loop-holds Inv-loop μ-loop
+unfolding joined ones
+loop-holds c = (search needs, search needs, refl)
+
+mul-row-ones : tie.Need-mul-row-ones Inv-loop μ-loop
+mul-row-ones c = omega arith
+
+array-copy-out-row-ones : tie.Need-array-copy-out-row-ones Inv-loop μ-loop
+array-copy-out-row-ones c = omega arith
+
+row-ones-requires : tie.Need-row-ones-requires Inv-loop μ-loop
+row-ones-requires c κs = search needs
+
+add-n : tie.Need-add-n Inv-loop μ-loop
+add-n c = omega (arith, c .row-ones .ensures .1)
+
+add-i : tie.Need-add-i Inv-loop μ-loop
+add-i c = omega arith
+
+loop-less : tie.Need-loop-less Inv-loop μ-loop
+loop-less c = omega arith
+
+loop-again : tie.Need-loop-again Inv-loop μ-loop
+loop-again c =
+    let a = c .before .before .before .loop in
+    let r = c .row-ones .ensures in
+    let l : length (c .before .before .before .before .args .t1) ≡ 10 = search needs in (
+      omega arith,
+      omega (arith, r .1),
+      ap (λ (k : ℕ). a .n + k) (r .0) ∙ ones-next (c .before .before .before .before .args .t1) (a .n) (a .i) (omega arith) (a .inv .2),
+    )
+
+cast-result : tie.Need-cast-result Inv-loop μ-loop
+cast-result c = omega arith
+
+returns : tie.Need-returns Inv-loop μ-loop
+returns c =
+    let a = c .before .loop in
+    let e : a .i ≡ 8 = omega arith in
+    simp (a .inv .2, e)
+
+pub parity-of-spec : {M : Type 1} → statement M
+parity-of-spec =
+    tie.close
+    (tie.spec
+    Inv-loop
+    μ-loop
+    loop-holds
+    mul-row-ones
+    array-copy-out-row-ones
+    row-ones-requires
+    add-n
+    add-i
+    loop-less
+    loop-again
+    cast-result
+    returns)

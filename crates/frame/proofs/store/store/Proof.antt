@@ -1,0 +1,48 @@
+-- The rows with the parity of the rows without one are the form's bytes.
+use mathlib.Core.Path.{_∙_, ap}
+use mathlib.Core.List.{List}
+use Prim.Native.Nat.{ℕ, _%_}
+use denote.Ref.{now}
+use lib.ListN.{take}
+use lib.Seq.{sets}
+use Rattle.spelling.specs.Bytes.{ones}
+use Rattle.frame.specs.Tens.{joined}
+use Rattle.frame.proofs.Elements.{rows-frame}
+use borrow.Author.Needs.{needs}
+use Rattle.frame.proofs.store.store.Statement.{statement}
+use Rattle.frame.proofs.store.store.Tie as tie
+
+rows-of-requires : tie.Need-rows-of-requires
+rows-of-requires c κs = search needs
+
+parity-of-requires : tie.Need-parity-of-requires
+parity-of-requires c κs = search needs
+
+rows-of-requires-2 : tie.Need-rows-of-requires-2
+rows-of-requires-2 c κs = search needs
+
+put-rows-requires : tie.Need-put-rows-requires
+put-rows-requires c κs = search needs
+
+same-length : tie.Need-same-length
+same-length c = search needs
+
+returns : tie.Need-returns
+returns c =
+    let b = c .before .before .before .before in
+    let e = b .before .before .before .before in
+    let o = now (e .args .out) in
+    c .before .before .put-rows .ensures ∙ ap (λ (f : List (List ℕ)). sets o 0 (joined f)) (b .rows-of2 .ensures)
+    ∙ ap (sets o 0)
+    (rows-frame (e .args .r) (e .args .minus) _ (e .pre .1 .0) (b .before .parity-of .ensures ∙ ap (λ (f : List (List ℕ)). ones (joined (take 8 f)) % 2) (b .before .before .rows-of .ensures)))
+
+pub store-spec : {M : Type 1} → statement M
+store-spec =
+    tie.close
+    (tie.spec
+    rows-of-requires
+    parity-of-requires
+    rows-of-requires-2
+    put-rows-requires
+    same-length
+    returns)
