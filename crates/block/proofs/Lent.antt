@@ -1,0 +1,68 @@
+-- A row stored into the part of a buffer from a column onward is the row stored at that column.
+use mathlib.Core.Path.{_≡_, refl, sym, _∙_, ap}
+use mathlib.Core.List.{List, [], _∷_, _++_, append-nil}
+use Prim.Native.Nat.{ℕ, suc, _+_, _-_, _≤_}
+use native.Mathlib.Omega.{arith}
+use lib.ListN.{length, take, drop, set, length-drop, take-append-drop}
+use lib.Seq.{drop-length, length-sets, length-take-le, sets, take-all}
+use Rattle.forms.specs.Places.{Place, Row, fixed, part, placed, width}
+use Rattle.forms.specs.Slots.{Slot, Values}
+use Rattle.spelling.specs.Spelling.{spell}
+use Rattle.layout.specs.Stores.{stores}
+
+set-behind : (a b : List ℕ) (j x : ℕ) → set (a ++ b) (j + length a) x ≡ a ++ set b j x
+set-behind [] b j x =
+    let e : j + 0 ≡ j = omega arith in
+    ap (λ (n : ℕ). set b n x) e
+set-behind (y ∷ a) b j x =
+    let e : j + suc (length a) ≡ suc (j + length a) = omega arith in
+    ap (λ (n : ℕ). set (y ∷ (a ++ b)) n x) e ∙ ap (λ (l : List ℕ). y ∷ l) (set-behind a b j x)
+
+sets-behind : (a b : List ℕ) (j : ℕ) (xs : List ℕ) → sets (a ++ b) (j + length a) xs ≡ a ++ sets b j xs
+sets-behind a b j [] = refl
+sets-behind a b j (x ∷ xs) =
+    let e : suc (j + length a) ≡ suc j + length a = omega arith in
+    ap (λ (l : List ℕ). sets l (suc (j + length a)) xs) (set-behind a b j x) ∙ ap (λ (n : ℕ). sets (a ++ set b j x) n xs) e
+    ∙ sets-behind a (set b j x) (suc j) xs
+
+stores-behind : (ps : Row) (v : Values) (a b : List ℕ) (j : ℕ) → stores ps (j + length a) v (a ++ b) ≡ a ++ stores ps j v b
+unfolding stores
+stores-behind [] v a b j = refl
+stores-behind (p ∷ ps) v a b j =
+    let e : width p + (j + length a) ≡ width p + j + length a = omega arith in
+    ap (λ (l : List ℕ). stores ps (width p + (j + length a)) v l) (sets-behind a b j (placed p v))
+    ∙ ap (λ (n : ℕ). stores ps n v (a ++ sets b j (placed p v))) e
+    ∙ stores-behind ps v a (sets b j (placed p v)) (width p + j)
+
+pub stores-length : (ps : Row) (k : ℕ) (v : Values) (o : List ℕ) → length (stores ps k v o) ≡ length o
+unfolding stores
+stores-length [] k v o = refl
+stores-length (p ∷ ps) k v o = stores-length ps (width p + k) v (sets o k (placed p v)) ∙ length-sets o k (placed p v)
+
+-- only what the row's slots tell counts
+place-same : (p : Place) (v w : Values) → ((f : Slot) → v f ≡ w f) → placed p v ≡ placed p w
+place-same (fixed bs) v w h = refl
+place-same (part c f) v w h = ap (spell c) (h f)
+
+pub stores-same : (ps : Row) (k : ℕ) (v w : Values) (o : List ℕ) → ((f : Slot) → v f ≡ w f) → stores ps k v o ≡ stores ps k w o
+unfolding stores
+stores-same [] k v w o h = refl
+stores-same (p ∷ ps) k v w o h =
+    ap (λ (x : List ℕ). stores ps (width p + k) v (sets o k x)) (place-same p v w h) ∙ stores-same ps (width p + k) v w (sets o k (placed p w)) h
+
+-- what is lent from a column onward
+
+pub lent-length : (x : List ℕ) (m : ℕ) → length (take (length x - m) (drop m x)) ≡ length x - m
+lent-length x m = length-take-le (length x - m) (drop m x) (omega (arith, length-drop m x))
+
+pub lent : (ps : Row) (v : Values) (x y : List ℕ) (at : ℕ) → at ≤ length x → y ≡ stores ps 0 v (take (length x - at) (drop at x))
+    → take at x ++ (y ++ drop (length x - at) (drop at x)) ≡ stores ps at v x
+lent ps v x y at h e =
+    let l : length x - at ≡ length (drop at x) = sym (length-drop at x) in
+    let whole : take (length x - at) (drop at x) ≡ drop at x = take-all (length x - at) (drop at x) (omega arith) in
+    let none : drop (length x - at) (drop at x) ≡ [] = ap (λ (n : ℕ). drop n (drop at x)) l ∙ drop-length (drop at x) in
+    let k : 0 + length (take at x) ≡ at = omega (arith, length-take-le at x h) in
+    ap (λ (z : List ℕ). take at x ++ (y ++ z)) none ∙ ap (λ (z : List ℕ). take at x ++ z) (append-nil y ∙ e ∙ ap (stores ps 0 v) whole)
+    ∙ sym (stores-behind ps v (take at x) (drop at x) 0)
+    ∙ ap (λ (n : ℕ). stores ps n v (take at x ++ drop at x)) k
+    ∙ ap (stores ps at v) (take-append-drop at x)
