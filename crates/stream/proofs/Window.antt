@@ -1,0 +1,30 @@
+-- The last bytes of a list: how many they are, and that one byte more needs only those.
+use mathlib.Core.List.{List, [], _∷_, _++_}
+use mathlib.Core.Path.{_≡_, sym}
+use Prim.Native.Nat.{ℕ, _+_, _-_, _≤_, min}
+use native.Mathlib.Omega.{arith}
+use lib.ListN.{length, drop, length-append, length-drop}
+use lib.Seq.{drop-append-le, drop-drop, drop-nil, take-all}
+use Rattle.stream.specs.Window.{lastOf, window}
+
+pub length-last : (m : ℕ) (s : List ℕ) → length (lastOf m s) ≡ min m (length s)
+unfolding lastOf
+length-last m s = rw length-drop (omega arith)
+
+-- the last n of the last m bytes and one more are the last n of all, where n is at most m + 1
+pub last-last : (m n : ℕ) (s : List ℕ) (b : ℕ) → n ≤ m + 1 → lastOf n (lastOf m s ++ (b ∷ [])) ≡ lastOf n (s ++ (b ∷ []))
+unfolding lastOf
+last-last m n s b l =
+    rw (← drop-append-le (length s - m) s (b ∷ []) (omega arith), drop-drop, length-drop, length-append)
+    (let e : length s - m + (length s + 1 - (length s - m) - n) ≡ length s + 1 - n = omega arith in
+    rw e)
+
+pub none-last : (m : ℕ) → lastOf m [] ≡ []
+unfolding lastOf
+none-last m = drop-nil (0 - m)
+
+-- the last n bytes are the window that ends with the last one
+pub last-window : (n : ℕ) (p : List ℕ) (b : ℕ) → lastOf n (p ++ (b ∷ [])) ≡ window n (p ++ (b ∷ [])) (length p + 1 - n)
+unfolding lastOf
+last-window n p b =
+    rw length-append (sym (take-all n (drop (length p + 1 - n) (p ++ (b ∷ []))) (rw (length-drop, length-append) (omega arith))))
