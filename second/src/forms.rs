@@ -1,0 +1,126 @@
+//! The two calls over all nine forms, with the tests that do not depend on the bytes.
+
+use crate::record::{Date, Fraction, Record};
+use crate::{block, frame, serial};
+
+/// The length of a serial string or of the frame.
+pub fn string_length(form: u32) -> Option<usize> {
+    match form {
+        1 => Some(32),
+        2 => Some(31),
+        3 => Some(66),
+        4 => Some(32),
+        5 => Some(16),
+        6 => Some(16),
+        7 => Some(24),
+        8 => Some(100),
+        _ => None,
+    }
+}
+
+/// Form 9 has no one length: a block has 118..174 bytes.
+fn length_fits(form: u32, length: usize) -> bool {
+    match string_length(form) {
+        Some(wanted) => length == wanted,
+        None => (118..=174).contains(&length),
+    }
+}
+
+/// Reads a string of a form: tests in the order 1, 2, 3, 6, 4, 5. The record of a refused read is
+/// the empty record, `Record::default()`.
+pub fn read(form: u32, input: &[u8]) -> Result<Record, u32> {
+    if !(1..=9).contains(&form) {
+        return Err(1);
+    }
+    if !length_fits(form, input.len()) {
+        return Err(2);
+    }
+    match form {
+        1 => serial::read_standard(input),
+        2 => serial::read_capture(input),
+        3 => serial::read_erlangen(input),
+        4 => serial::read_spa(input),
+        5 => serial::read_racal(input),
+        6 => serial::read_sysplex(input),
+        7 => serial::read_computime(input),
+        8 => frame::read_frame(input),
+        _ => block::read_block(input),
+    }
+}
+
+/// Whether every field that the form carries is there and of the form's kind.
+pub(crate) fn carried_fields_are_there(form: u32, record: &Record) -> bool {
+    let full_date = matches!(record.date, Some(Date::Full { .. }));
+    let sync = record.sync.is_some();
+    let fix = record.fix.is_some();
+    let utc = record.utc.is_some();
+    let summer = record.summer.is_some();
+    let change = record.change.is_some();
+    let leap = record.leap.is_some();
+    let offset = record.offset.is_some();
+    match form {
+        1 => full_date && sync && fix && utc && summer && change && leap,
+        2 => {
+            full_date
+                && matches!(record.fraction, Some(Fraction::TenMillionths(_)))
+                && record.channel.is_some()
+        }
+        3 => {
+            let position = record.position.is_some();
+            full_date && offset && sync && fix && summer && change && leap && position
+        }
+        4 => full_date && matches!(record.fraction, Some(Fraction::Thousandths(_))),
+        5 => full_date,
+        // "A full date serves form 6": so any kind of date does.
+        6 => record.date.is_some() && sync,
+        7 => full_date,
+        8 => full_date && sync && summer && offset && record.dsp.is_some() && record.lsp.is_some(),
+        _ => true,
+    }
+}
+
+/// Row 9: what a form's layout has no room for.
+fn form_can_say(form: u32, record: &Record) -> bool {
+    match form {
+        1 => !(record.change == Some(true) && record.leap == Some(true)),
+        8 => record.offset.is_none_or(|offset| offset % 30 == 0),
+        _ => true,
+    }
+}
+
+fn spell(form: u32, record: &Record) -> Vec<u8> {
+    match form {
+        1 => serial::write_standard(record),
+        2 => serial::write_capture(record),
+        3 => serial::write_erlangen(record),
+        4 => serial::write_spa(record),
+        5 => serial::write_racal(record),
+        6 => serial::write_sysplex(record),
+        7 => serial::write_computime(record),
+        8 => frame::write_frame(record),
+        _ => block::write_block(record),
+    }
+}
+
+/// Writes a record as a string of a form: tests in the order 1, 7, 8, 9, 10. A refused write
+/// changes no byte; one that succeeds leaves the bytes behind its output.
+pub fn write(form: u32, record: &Record, out: &mut [u8]) -> Result<usize, u32> {
+    if !(1..=9).contains(&form) {
+        return Err(1);
+    }
+    if record.is_bad() {
+        return Err(7);
+    }
+    if !carried_fields_are_there(form, record) {
+        return Err(8);
+    }
+    if !form_can_say(form, record) {
+        return Err(9);
+    }
+    let bytes = spell(form, record);
+    if out.len() < bytes.len() {
+        return Err(10);
+    }
+    out[..bytes.len()].copy_from_slice(&bytes);
+    Ok(bytes.len())
+}

@@ -1,0 +1,28 @@
+//! A second, independent implementation of document 01 ("Time strings, the frame and the block").
+//!
+//! It was written from the document alone, to be compared with the verified library. It is meant
+//! to be read beside the document, not to be fast.
+
+// A remainder of 0 is the plainer word for the calendar.
+#![allow(clippy::manual_is_multiple_of)]
+
+pub mod block;
+pub mod calendar;
+pub mod forms;
+pub mod frame;
+pub mod generate;
+pub mod listener;
+pub mod protocol;
+pub mod record;
+pub mod search;
+pub mod serial;
+
+#[cfg(test)]
+mod bench;
+#[cfg(test)]
+mod vectors;
+
+pub use forms::{read, write};
+pub use listener::{Heard, Listener};
+pub use record::{Date, Fraction, Position, Record};
+pub use search::search;
