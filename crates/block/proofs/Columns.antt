@@ -20,7 +20,7 @@ use Rattle.block.proofs.Chosen.{rowOf}
 
 -- a column
 
-drop-column : (j k : ℕ) (s : List ℕ) → drop (j + k) s ≡ drop j (drop k s)
+pub drop-column : (j k : ℕ) (s : List ℕ) → drop (j + k) s ≡ drop j (drop k s)
 drop-column j k s =
     let e : j + k ≡ k + j = omega arith in
     ap (λ (n : ℕ). drop n s) e ∙ sym (drop-drop j k s)
@@ -57,7 +57,7 @@ module _ (k : ℕ) (s : List ℕ) where
 -- a slot
 
 module _ (s : List ℕ) (f : Slot) where
-  values-none : (ps : Row) (k : ℕ) → has ps f ≡ false → values ps k s f ≡ 0
+  pub values-none : (ps : Row) (k : ℕ) → has ps f ≡ false → values ps k s f ≡ 0
   unfolding has values
   values-none [] k h = refl
   values-none (p ∷ ps) k h = go (isOf f p) h (values-none ps (width p + k))

@@ -52,6 +52,10 @@ stores-same (p ∷ ps) k v w o h =
 
 -- what is lent from a column onward
 
+-- the part from a column onward is what is left behind it
+pub lent-whole : (x : List ℕ) (m : ℕ) → take (length x - m) (drop m x) ≡ drop m x
+lent-whole x m = take-all (length x - m) (drop m x) (omega (arith, length-drop m x))
+
 pub lent-length : (x : List ℕ) (m : ℕ) → length (take (length x - m) (drop m x)) ≡ length x - m
 lent-length x m = length-take-le (length x - m) (drop m x) (omega (arith, length-drop m x))
 
@@ -59,10 +63,9 @@ pub lent : (ps : Row) (v : Values) (x y : List ℕ) (at : ℕ) → at ≤ length
     → take at x ++ (y ++ drop (length x - at) (drop at x)) ≡ stores ps at v x
 lent ps v x y at h e =
     let l : length x - at ≡ length (drop at x) = sym (length-drop at x) in
-    let whole : take (length x - at) (drop at x) ≡ drop at x = take-all (length x - at) (drop at x) (omega arith) in
     let none : drop (length x - at) (drop at x) ≡ [] = ap (λ (n : ℕ). drop n (drop at x)) l ∙ drop-length (drop at x) in
     let k : 0 + length (take at x) ≡ at = omega (arith, length-take-le at x h) in
-    ap (λ (z : List ℕ). take at x ++ (y ++ z)) none ∙ ap (λ (z : List ℕ). take at x ++ z) (append-nil y ∙ e ∙ ap (stores ps 0 v) whole)
+    ap (λ (z : List ℕ). take at x ++ (y ++ z)) none ∙ ap (λ (z : List ℕ). take at x ++ z) (append-nil y ∙ e ∙ ap (stores ps 0 v) (lent-whole x at))
     ∙ sym (stores-behind ps v (take at x) (drop at x) 0)
     ∙ ap (λ (n : ℕ). stores ps n v (take at x ++ drop at x)) k
     ∙ ap (stores ps at v) (take-append-drop at x)

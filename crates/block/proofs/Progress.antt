@@ -8,7 +8,7 @@ use Rattle.forms.specs.Block.{blockLines, blockOf, choices}
 use Rattle.forms.specs.Places.{Row, rowWidth}
 use Rattle.forms.specs.Told.{told}
 use Rattle.layout.specs.Stores.{stores}
-use Rattle.block.specs.Stores.{lineOf}
+use Rattle.block.specs.Lines.{lineOf}
 use Rattle.block.proofs.Chosen.{next-stored, next-width, row-all, row-none, row-room, rowOf}
 
 -- the row of the first i lines

@@ -7,7 +7,7 @@ use Prim.Native.String.{String}
 use native.Mathlib.Omega.{arith}
 use lib.ListN.{length, drop, getD, set}
 use lib.Seq.{sets}
-use Rattle.choice.specs.Pick.{oneIf, pick}
+use Rattle.choice.specs.Pick.{pick}
 use Rattle.spelling.specs.Bytes.{text}
 use Rattle.record.specs.declared.Date.{Date}
 use Rattle.record.specs.declared.Date.the-variants as dateIs
@@ -26,7 +26,7 @@ use Rattle.forms.specs.Form.{bytesBy, carries}
 use Rattle.forms.specs.Needs.{hasAll}
 use Rattle.forms.specs.Places.{allWorded, bytesOf, rowWidth}
 use Rattle.forms.specs.Slots.{Slot, Values, change, dsp, fix, leap, lsp, same, sum, summer, sync, utc}
-use Rattle.forms.specs.Told.{altitudeTold, latitudeTold, longitudeTold, minusTold, minutesTold, southTold, told, westTold}
+use Rattle.forms.specs.Told.{told}
 use Rattle.forms.proofs.Append.{width-append}
 use Rattle.forms.proofs.BlockRecord.{own-choice, own-complete, own-worded}
 use Rattle.forms.proofs.BlockRow.{block-sound}
@@ -34,11 +34,10 @@ use Rattle.forms.proofs.Choices.{channel-width}
 use Rattle.forms.proofs.Slots.{same-slot}
 use Rattle.forms.proofs.Sound.{SoundForm}
 use Rattle.forms.proofs.WriteRead.{written, written-roomy}
-use Rattle.fields.specs.Signs.{isMinus, isSouth, isWest}
 use Rattle.layout.specs.Stores.{stores}
 use Rattle.layout.proofs.Stored.{stores-laid}
 use Rattle.block.specs.Sizes.{dateSize, flagSize, fractionSize, offsetSize, positionSize}
-use Rattle.block.specs.Stores.{Laid, flagText, offsetStored, positionStored, wordStored}
+use Rattle.block_lines.specs.Stores.{Laid, flagText, wordStored}
 use Rattle.block.proofs.Lent.{stores-same}
 
 -- the line of a yes or no field
@@ -66,37 +65,6 @@ module _ (key : String) (f : Slot) where
   pub flag-laid : (x : Flag) (v : Values) (n : ℕ) (o a : List ℕ) → (n ≡ length (text key) + length (flagText x) + 1) × (a ≡ wordStored (text key) (flagText x) o)
       → Laid (getD (flagLine key f) (flagChoice x) []) v n o a
   flag-laid x v n o a h = (h .0 ∙ sym (flag-width x), h .1 ∙ flag-stored x v o)
-
--- the lines with signs
-
-minus-told : (x : Offset) → oneIf (isMinus x) ≡ minusTold x
-minus-told offsetIs.Absent = refl
-minus-told (offsetIs.Minutes z) = refl
-
-south-told : (x : Position) → oneIf (isSouth x) ≡ southTold x
-south-told positionIs.Absent = refl
-south-told (positionIs.Degrees lat lon alt) = refl
-
-west-told : (x : Position) → oneIf (isWest x) ≡ westTold x
-west-told positionIs.Absent = refl
-west-told (positionIs.Degrees lat lon alt) = refl
-
-module _ (r : Record) (n : ℕ) (o a : List ℕ) where
-  pub offset-laid : offsetChoice (r .offset) ≡ 1 → (t : Bool) (m : ℕ) → t ≡ isMinus (r .offset) → m ≡ minutesTold (r .offset)
-      → (n ≡ 14) × (a ≡ offsetStored t m o) → Laid (getD offsetLine (offsetChoice (r .offset)) []) (told r) n o a
-  unfolding stores rowWidth
-  offset-laid k t m e1 e2 h =
-      let s : oneIf t ≡ minusTold (r .offset) = ap oneIf e1 ∙ minus-told (r .offset) in
-      rw k (h .0, h .1 ∙ rw (s, e2))
-
-  pub position-laid : positionChoice (r .position) ≡ 1 → (s w : Bool) (lat lon alt : ℕ) → s ≡ isSouth (r .position) → lat ≡ latitudeTold (r .position)
-      → w ≡ isWest (r .position) → lon ≡ longitudeTold (r .position) → alt ≡ altitudeTold (r .position)
-      → (n ≡ 34) × (a ≡ positionStored s lat w lon alt o) → Laid (getD positionLine (positionChoice (r .position)) []) (told r) n o a
-  unfolding stores rowWidth
-  position-laid k s w lat lon alt e1 e2 e3 e4 e5 h =
-      let x : oneIf s ≡ southTold (r .position) = ap oneIf e1 ∙ south-told (r .position) in
-      let y : oneIf w ≡ westTold (r .position) = ap oneIf e3 ∙ west-told (r .position) in
-      rw k (h .0, h .1 ∙ rw (x, e2, y, e4, e5))
 
 -- the size of the whole
 

@@ -1,3 +1,5 @@
-pub mod Stores
+pub mod Lines
 pub mod Sizes
-pub mod Found
+pub mod Behind
+pub mod Groups
+pub mod Judged

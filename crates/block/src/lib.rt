@@ -1,13 +1,8 @@
 // The block, form 9: "Lines closed by LF, these keys in this order".
-mod date;
-mod flag;
-mod line;
-mod numbers;
-mod offset;
-mod position;
-mod sign;
+mod groups;
+mod reader;
 mod size;
-mod time;
 mod writer;
 
+pub use reader::read;
 pub use writer::write;

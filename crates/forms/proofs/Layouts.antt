@@ -26,7 +26,7 @@ unfoldable pub choicesAt : List Line → ℕ → List ℕ → List ℕ
 choicesAt [] k s = []
 choicesAt (l ∷ ls) k s = choiceAt l k s ∷ choicesAt ls (rowWidth (layoutAt l k s) + k) s
 
-layout-at : (l : Line) (k : ℕ) (s : List ℕ) → layoutAt l k s ≡ getD l (choiceAt l k s) []
+pub layout-at : (l : Line) (k : ℕ) (s : List ℕ) → layoutAt l k s ≡ getD l (choiceAt l k s) []
 unfolding layoutAt choiceAt
 layout-at [] k s = refl
 layout-at (ps ∷ []) k s = refl

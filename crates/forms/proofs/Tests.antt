@@ -48,7 +48,7 @@ module _ (d : Form) (s : List ℕ) where
           read-as t = simp (eq-eqb (length s) (d .size) l, h, q, r, t)
 
 -- a row that starts with a fixed byte fits no string that starts with another
-first-byte : (b : ℕ) (bs : List ℕ) (ps : Row) (s : List ℕ) → (getD s 0 0 ≡ b → ⊥) → shape (fixed (b ∷ bs) ∷ ps) 0 s ≡ false
+pub first-byte : (b : ℕ) (bs : List ℕ) (ps : Row) (s : List ℕ) → (getD s 0 0 ≡ b → ⊥) → shape (fixed (b ∷ bs) ∷ ps) 0 s ≡ false
 unfolding shape sameBytes
 first-byte b bs ps [] n = refl
 first-byte b bs ps (x ∷ s) n = simp (ne-eqb x b n)

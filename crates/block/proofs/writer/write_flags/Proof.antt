@@ -3,7 +3,7 @@ use mathlib.Core.Path.{_≡_}
 use native.Mathlib.Omega.{arith}
 use Rattle.forms.specs.Slots.{change, fix, leap, summer, sync, utc}
 use Rattle.forms.specs.Told.{told}
-use Rattle.block.specs.Stores.{lineOf}
+use Rattle.block.specs.Lines.{lineOf}
 use Rattle.block.proofs.Rows.{flag-laid, flag-width}
 use borrow.Author.Needs.{needs}
 use Rattle.block.proofs.writer.write_flags.Statement.{statement}

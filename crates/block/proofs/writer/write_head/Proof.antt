@@ -3,7 +3,7 @@ use mathlib.Core.Path.{_≡_}
 use native.Mathlib.Omega.{arith}
 use Rattle.forms.specs.Places.{rowWidth}
 use Rattle.forms.proofs.Choices.{channel-width}
-use Rattle.block.specs.Stores.{lineOf}
+use Rattle.block.specs.Lines.{lineOf}
 use borrow.Author.Needs.{needs}
 use Rattle.block.proofs.writer.write_head.Statement.{statement}
 use Rattle.block.proofs.writer.write_head.Tie as tie

@@ -1,0 +1,70 @@
+-- The layout is the first that fits, and the number is a call.
+use mathlib.Core.Path.{_≡_, refl, sym, _∙_}
+use mathlib.Core.Bool.{true, false}
+use mathlib.Core.List.{[]}
+use lib.ListN.{getD}
+use Rattle.forms.specs.Block.{channelLine, layoutAt}
+use Rattle.forms.specs.Carries.{carriesOf}
+use Rattle.forms.specs.Places.{has, rowWidth, shape, values}
+use Rattle.forms.specs.Spelled.{channelFrom}
+use Rattle.block_lines.specs.Found.{channelFound}
+use Rattle.block_lines.proofs.Closed.{in-reach, isClosed}
+use native.Mathlib.Omega.{arith}
+use borrow.Author.Needs.{needs}
+use Rattle.block_lines.proofs.numbers.read_channel.Statement.{statement}
+use Rattle.block_lines.proofs.numbers.read_channel.Tie as tie
+
+slice-aggregate-has-word : tie.Need-slice-aggregate-has-word
+slice-aggregate-has-word c = search needs
+
+slice-aggregate-has-word-2 : tie.Need-slice-aggregate-has-word-2
+slice-aggregate-has-word-2 c = search needs
+
+has-word-requires : tie.Need-has-word-requires
+has-word-requires c κs = search needs
+
+returns : tie.Need-returns
+unfolding channelFound layoutAt carriesOf has values channelFrom rowWidth
+returns c =
+    let h1 : shape (getD channelLine 0 []) 0 (c .before .before .before .before .before .args .s .now) ≡ true = (sym (c .before .has-word .ensures) ∙ c .if1 .taken) in
+    simp h1
+
+slice-aggregate-has-number : tie.Need-slice-aggregate-has-number
+slice-aggregate-has-number c = search needs
+
+has-number-requires : tie.Need-has-number-requires
+has-number-requires c κs = search needs
+
+number-at-requires : tie.Need-number-at-requires
+unfolding isClosed rowWidth
+number-at-requires c κs =
+    let h1 : shape (getD channelLine 1 []) 0 (c .before .before .before .before .before .before .before .before .args .s .now) ≡ true = unfold shape in (sym (c .before .has-number .ensures) ∙ c .if2 .taken) in
+    (omega (arith, in-reach (getD channelLine 1 []) 0 (c .before .before .before .before .before .before .before .before .args .s .now) refl (h1)), search needs)
+
+returns-2 : tie.Need-returns-2
+unfolding channelFound layoutAt carriesOf has values channelFrom rowWidth
+returns-2 c =
+    let h1 : shape (getD channelLine 0 []) 0 (c .before .before .before .before .before .before .before .before .before .args .s .now) ≡ false = (sym (c .before .before .before .before .before .has-word .ensures) ∙ c .before .before .before .before .if1 .left) in
+    let h2 : shape (getD channelLine 1 []) 0 (c .before .before .before .before .before .before .before .before .before .args .s .now) ≡ true = unfold shape in (sym (c .before .before .has-number .ensures) ∙ c .before .if2 .taken) in
+    simp (h1, h2, c .number-at .ensures .0)
+
+returns-3 : tie.Need-returns-3
+unfolding channelFound layoutAt carriesOf has values channelFrom rowWidth
+returns-3 c =
+    let h1 : shape (getD channelLine 0 []) 0 (c .before .before .before .before .before .before .before .before .args .s .now) ≡ false = (sym (c .before .before .before .before .has-word .ensures) ∙ c .before .before .before .if1 .left) in
+    let h2 : shape (getD channelLine 1 []) 0 (c .before .before .before .before .before .before .before .before .args .s .now) ≡ false = unfold shape in (sym (c .before .has-number .ensures) ∙ c .if2 .left) in
+    simp (h1, h2)
+
+pub read-channel-spec : {M : Type 1} → statement M
+read-channel-spec =
+    tie.close
+    (tie.spec
+    slice-aggregate-has-word
+    slice-aggregate-has-word-2
+    has-word-requires
+    returns
+    slice-aggregate-has-number
+    has-number-requires
+    number-at-requires
+    returns-2
+    returns-3)

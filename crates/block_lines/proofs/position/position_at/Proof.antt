@@ -1,0 +1,57 @@
+-- Each sign is its letter's, and the degrees are far below what 32 bits hold.
+use mathlib.Core.Path.{_∙_}
+use mir.Facts.{toZ-ofZ}
+use mir.Syntax.{w32}
+use mir.Val.{SFits}
+use Rattle.forms.specs.Places.{values}
+use Rattle.forms.specs.Spelled.{positionFrom}
+use Rattle.block_lines.proofs.Signs.{same-position, signed-at}
+use native.Mathlib.Omega.{arith}
+use borrow.Author.Needs.{needs}
+use Rattle.block_lines.proofs.position.position_at.Statement.{statement}
+use Rattle.block_lines.proofs.position.position_at.Tie as tie
+
+shared-slice-read-south : tie.Need-shared-slice-read-south
+shared-slice-read-south c = search needs
+
+shared-slice-read-west : tie.Need-shared-slice-read-west
+shared-slice-read-west c = search needs
+
+degrees-at-requires : tie.Need-degrees-at-requires
+degrees-at-requires c κs = search needs
+
+signed-number-requires : tie.Need-signed-number-requires
+signed-number-requires c κs = search needs
+
+degrees-at-requires-2 : tie.Need-degrees-at-requires-2
+degrees-at-requires-2 c κs = search needs
+
+signed-number-requires-2 : tie.Need-signed-number-requires-2
+signed-number-requires-2 c κs = search needs
+
+number-at-requires : tie.Need-number-at-requires
+number-at-requires c κs = search needs
+
+returns : tie.Need-returns
+unfolding values positionFrom
+returns c =
+    let l = c .before .before .before .before .before .before .before .before .pre in
+    let latitude : SFits w32 (c .before .before .before .signed-number .result) = search needs in
+    let longitude : SFits w32 (c .before .signed-number2 .result) = search needs in
+    same-position _ _ _ _ _ _
+    (toZ-ofZ latitude ∙ c .before .before .before .signed-number .ensures ∙ signed-at (c .before .before .before .before .before .before .before .before .args .s .now) 9 (omega arith) _ _ (c .before .before .before .before .degrees-at .ensures .0))
+    (toZ-ofZ longitude ∙ c .before .signed-number2 .ensures ∙ signed-at (c .before .before .before .before .before .before .before .before .args .s .now) 19 (omega arith) _ _ (c .before .before .degrees-at2 .ensures .0))
+    (c .number-at .ensures .0)
+
+pub position-at-spec : {M : Type 1} → statement M
+position-at-spec =
+    tie.close
+    (tie.spec
+    shared-slice-read-south
+    shared-slice-read-west
+    degrees-at-requires
+    signed-number-requires
+    degrees-at-requires-2
+    signed-number-requires-2
+    number-at-requires
+    returns)

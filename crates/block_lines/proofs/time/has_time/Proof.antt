@@ -1,0 +1,43 @@
+-- Bytes too short for the line do not fit it; else each part of the test is a call.
+use mathlib.Core.Path.{refl}
+use mathlib.Core.List.{[]}
+use mathlib.Core.Bool.{and-assoc, and-true}
+use lib.ListN.{getD}
+use Rattle.forms.specs.Block.{timeLine}
+use Rattle.forms.specs.Places.{rowWidth, shape}
+use Rattle.block_lines.proofs.Closed.{isClosed, too-short}
+use native.Mathlib.Omega.{arith}
+use borrow.Author.Needs.{needs}
+use Rattle.block_lines.proofs.time.has_time.Statement.{statement}
+use Rattle.block_lines.proofs.time.has_time.Tie as tie
+
+returns : tie.Need-returns
+unfolding isClosed rowWidth
+returns c = too-short (getD timeLine 0 []) (c .before .before .args .s .now) refl (omega arith)
+
+slice-aggregate-text-at : tie.Need-slice-aggregate-text-at
+slice-aggregate-text-at c = search needs
+
+text-at-requires : tie.Need-text-at-requires
+text-at-requires c κs = search needs
+
+pairs-at-requires : tie.Need-pairs-at-requires
+pairs-at-requires c κs = search needs
+
+is-at-requires : tie.Need-is-at-requires
+is-at-requires c κs = search needs
+
+returns-2 : tie.Need-returns-2
+unfolding shape
+returns-2 c = simp (c .is-at .ensures, c .before .pairs-at .ensures, c .before .before .text-at .ensures, and-assoc, and-true)
+
+pub has-time-spec : {M : Type 1} → statement M
+has-time-spec =
+    tie.close
+    (tie.spec
+    returns
+    slice-aggregate-text-at
+    text-at-requires
+    pairs-at-requires
+    is-at-requires
+    returns-2)

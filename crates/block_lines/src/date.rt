@@ -1,0 +1,107 @@
+// The line of the date.
+ghost use mathlib.Core.Path.{_≡_};
+ghost use mathlib.Core.List.{[]};
+ghost use Prim.Native.Nat.{_≤_};
+ghost use lib.ListN.{length, getD};
+ghost use Rattle.forms.specs.Block.{dateChoice, dateLine, layoutAt};
+ghost use Rattle.forms.specs.Places.{rowWidth, shape};
+ghost use Rattle.forms.specs.Told.{told};
+ghost use Rattle.block_lines.specs.Found.{dateFound};
+ghost use Rattle.block_lines.specs.Stores.{Laid, dayStored, fullDateStored};
+use crate::line::has_word;
+use crate::line::put_word;
+use record::Date;
+use record::Record;
+
+pub struct DateLine {
+    pub size: usize,
+    pub date: Date,
+}
+
+// `date=24-02-29`
+fn has_full_date(s: &[u8]) -> bool
+    ensures { λ r. ⌜ r ≡ shape (getD dateLine 1 []) 0 (now (s .entry)) ⌝ }
+{
+    if s.len() < 14 {
+        return false;
+    }
+    layout::text_at(s, 0, b"date=") & (layout::pairs_at(s, 5, b'-') & layout::is_at(s, 13, b'\n'))
+}
+
+// `date=day-060`
+fn has_day_of_year(s: &[u8]) -> bool
+    ensures { λ r. ⌜ r ≡ shape (getD dateLine 2 []) 0 (now (s .entry)) ⌝ }
+{
+    if s.len() < 13 {
+        return false;
+    }
+    layout::text_at(s, 0, b"date=")
+        & (layout::text_at(s, 5, b"day-")
+            & (layout::digits_at(s, 9, 3) & layout::is_at(s, 12, b'\n')))
+}
+
+pub fn read_date(s: &[u8]) -> DateLine
+    ensures { λ r. ⌜ r ≡ dateFound (layoutAt dateLine 0 (now (s .entry))) (now (s .entry)) ⌝ }
+{
+    if has_word(b"date=", b"-", s) {
+        return DateLine {
+            size: 7,
+            date: Date::Absent,
+        };
+    }
+    if has_full_date(s) {
+        return DateLine {
+            size: 14,
+            date: Date::Full {
+                year: layout::number_at(s, 5, 2),
+                month: layout::number_at(s, 8, 2),
+                day: layout::number_at(s, 11, 2),
+            },
+        };
+    }
+    if has_day_of_year(s) {
+        return DateLine {
+            size: 13,
+            date: Date::DayOfYear(layout::number_at(s, 9, 3)),
+        };
+    }
+    DateLine {
+        size: 0,
+        date: Date::Absent,
+    }
+}
+
+// `date=24-02-29`
+fn put_full_date(year: u32, month: u32, day: u32, out: &mut [u8]) -> usize
+    requires { ⌜ 14 ≤ length (now out) ⌝ }
+    ensures { λ n. ⌜ (n ≡ 14) × (now (out .exit) ≡ fullDateStored year month day (now (out .entry))) ⌝ }
+{
+    spelling::put_bytes(out, 0, b"date=");
+    layout::put_pairs(out, 5, b'-', year, month, day);
+    spelling::put_byte(out, 13, b'\n');
+    14
+}
+
+// `date=day-060`
+fn put_day_of_year(n: u32, out: &mut [u8]) -> usize
+    requires { ⌜ 13 ≤ length (now out) ⌝ }
+    ensures { λ size. ⌜ (size ≡ 13) × (now (out .exit) ≡ dayStored n (now (out .entry))) ⌝ }
+{
+    spelling::put_bytes(out, 0, b"date=");
+    spelling::put_bytes(out, 5, b"day-");
+    spelling::put_digits(out, 9, 3, n);
+    spelling::put_byte(out, 12, b'\n');
+    13
+}
+
+pub fn write_date(r: Record, out: &mut [u8]) -> usize
+    requires { ⌜ rowWidth (getD dateLine (dateChoice (r .date)) []) ≤ length (now out) ⌝ }
+    ensures { λ n. ⌜ Laid (getD dateLine (dateChoice (r .date)) []) (told r) n (now (out .entry)) (now (out .exit)) ⌝ }
+{
+    let date = r.date;
+    match date {
+        Date::Absent => put_word(b"date=", b"-", out),
+        Date::Full { year, month, day } => put_full_date(year, month, day, out),
+        Date::DayOfYear(n) => put_day_of_year(n, out),
+    }
+}

@@ -1,0 +1,58 @@
+// The line of the time.
+ghost use mathlib.Core.Path.{_≡_};
+ghost use mathlib.Core.List.{[]};
+ghost use Prim.Native.Nat.{_≤_};
+ghost use lib.ListN.{length, getD};
+ghost use Rattle.forms.specs.Block.{timeLine};
+ghost use Rattle.forms.specs.Places.{shape};
+ghost use Rattle.forms.specs.Told.{told};
+ghost use Rattle.block_lines.specs.Found.{timeFound};
+ghost use Rattle.block_lines.specs.Stores.{Laid};
+use record::Record;
+
+pub struct TimeLine {
+    pub size: usize,
+    pub hour: u32,
+    pub minute: u32,
+    pub second: u32,
+}
+
+// `time=23:59:60`
+fn has_time(s: &[u8]) -> bool
+    ensures { λ r. ⌜ r ≡ shape (getD timeLine 0 []) 0 (now (s .entry)) ⌝ }
+{
+    if s.len() < 14 {
+        return false;
+    }
+    layout::text_at(s, 0, b"time=") & (layout::pairs_at(s, 5, b':') & layout::is_at(s, 13, b'\n'))
+}
+
+pub fn read_time(s: &[u8]) -> TimeLine
+    ensures { λ r. ⌜ r ≡ timeFound (getD timeLine 0 []) (now (s .entry)) ⌝ }
+{
+    if has_time(s) {
+        TimeLine {
+            size: 14,
+            hour: layout::number_at(s, 5, 2),
+            minute: layout::number_at(s, 8, 2),
+            second: layout::number_at(s, 11, 2),
+        }
+    } else {
+        TimeLine {
+            size: 0,
+            hour: 0,
+            minute: 0,
+            second: 0,
+        }
+    }
+}
+
+pub fn write_time(r: Record, out: &mut [u8]) -> usize
+    requires { ⌜ 14 ≤ length (now out) ⌝ }
+    ensures { λ n. ⌜ Laid (getD timeLine 0 []) (told r) n (now (out .entry)) (now (out .exit)) ⌝ }
+{
+    spelling::put_bytes(out, 0, b"time=");
+    layout::put_pairs(out, 5, b':', r.hour, r.minute, r.second);
+    spelling::put_byte(out, 13, b'\n');
+    14
+}
