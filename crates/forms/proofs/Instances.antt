@@ -18,8 +18,10 @@ use Rattle.forms.specs.Forms.{Layout, Numbered, allForms, block, layoutO
 use Rattle.forms.specs.Places.{has, rowWidth}
 use Rattle.forms.specs.Serial.{spa}
 use Rattle.forms.specs.Start.{OnlyAtHead, startByte}
+use Rattle.forms.specs.Valid.{endByte, lastByte}
 use Rattle.forms.proofs.Allowed.{allGroups, allWords, allowsRow, upTo}
 use Rattle.forms.proofs.Complete.{isComplete}
+use Rattle.forms.proofs.End.{end-byte, endsFixed}
 use Rattle.forms.proofs.Keeps.{sized-keeps, unknown-keeps}
 use Rattle.forms.proofs.OneByte.{one-replaced, sumBehind, sumsOnly}
 use Rattle.forms.proofs.Rows.{apartRow, limitOf, soundRow}
@@ -65,16 +67,20 @@ form-keeps b n = keeps b (layoutOf allForms n) (layout-passes isSoundForm allFor
 
 -- the serial forms
 
--- the form is sound, and its start byte stands at the head alone
+-- the form is sound, its start byte stands at the head alone, and it ends with a fixed byte
 abbrev starts : Form → Bool
-starts d = isSoundForm d && startsWith (startByte (d .row)) (d .row)
+starts d = isSoundForm d && (startsWith (startByte (d .row)) (d .row) && endsFixed (d .row))
 
 all-start : allPass starts serialForms ≡ true
-unfolding allPass isSoundForm rowWidth soundRow allLong allDifferent isWord sameBytes apartRow has wideRow isComplete every limitOf unsummed allAre upTo allWords allowsRow startsWith
+unfolding allPass isSoundForm rowWidth soundRow allLong allDifferent isWord sameBytes apartRow has wideRow isComplete every limitOf unsummed allAre upTo allWords allowsRow startsWith endsFixed
 all-start = refl
 
-started : (n : ℕ) (d : Form) → layoutOf serialForms n ≡ sized d → (isSoundForm d ≡ true) × (startsWith (startByte (d .row)) (d .row) ≡ true)
-started n d e = both (isSoundForm d) _ (subst (λ (l : Layout). passes starts l ≡ true) e (layout-passes starts serialForms n all-start))
+started : (n : ℕ) (d : Form) → layoutOf serialForms n ≡ sized d
+    → (isSoundForm d ≡ true) × (startsWith (startByte (d .row)) (d .row) ≡ true) × (endsFixed (d .row) ≡ true)
+started n d e =
+    let a = both (isSoundForm d) _ (subst (λ (l : Layout). passes starts l ≡ true) e (layout-passes starts serialForms n all-start)) in
+    let b = both (startsWith (startByte (d .row)) (d .row)) (endsFixed (d .row)) (a .1) in
+    (a .0, b .0, b .1)
 
 module _ (n : ℕ) (d : Form) (e : layoutOf serialForms n ≡ sized d) where
   pub serial-sound : isSoundForm d ≡ true
@@ -84,6 +90,11 @@ module _ (n : ℕ) (d : Form) (e : layoutOf serialForms n ≡ sized d) where
   serial-start =
       let p = started n d e in
       start-byte d (p .0) (startByte (d .row)) (p .1)
+
+  pub serial-end : (s : List ℕ) (r : Record) → readBy d s ≡ reading.Read r → lastByte s ≡ endByte (d .row)
+  serial-end =
+      let p = started n d e in
+      end-byte d (p .0) (p .2)
 
   -- two valid strings of one form share no byte
   pub serial-apart : (t : List ℕ) (i k : ℕ) (r q : Record) → 0 < k → k < d .size → readBy d (take (d .size) (drop i t)) ≡ reading.Read r

@@ -19,6 +19,7 @@ pub mod ReadWrite
 pub mod Trips
 pub mod Instances
 pub mod Start
+pub mod End
 pub mod OneByte
 pub mod Keeps
 pub mod Tests

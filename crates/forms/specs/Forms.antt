@@ -1,7 +1,9 @@
 -- The nine forms by their numbers, and what a reader and a writer answer for each.
 use mathlib.Core.List.{List, [], _∷_, _++_}
+use mathlib.Core.Path.{_≡_}
 use Prim.Native.Nat.{ℕ}
 use lib.Dec.{eqb}
+use lib.ListN.{length}
 use Rattle.choice.specs.Pick.{pick}
 use Rattle.record.specs.declared.Record.{Record}
 use Rattle.record.specs.declared.answer.Reading.{Reading}
@@ -69,3 +71,8 @@ leftAs unknown r out = out
 
 unfoldable pub leftForm : ℕ → Record → List ℕ → List ℕ
 leftForm n r out = leftAs (layoutOf allForms n) r out
+
+-- what the contract of a writer of several forms says: its answer, and every byte of the buffer afterwards
+pub record WroteAs (l : Layout) (r : Record) (w : Writing) (before after : List ℕ) : Type 0 where
+  pub answer : w ≡ writeAs l r (length before)
+  pub left : after ≡ leftAs l r before

@@ -13,4 +13,5 @@ pub mod Forms
 pub mod Bench
 pub mod Demand2
 pub mod Start
+pub mod Valid
 pub mod Columns

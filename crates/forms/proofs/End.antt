@@ -1,0 +1,55 @@
+-- Every valid string of a form ends with the last byte of its row.
+use mathlib.Core.Path.{_≡_, refl, _∙_, subst}
+use mathlib.Core.Bool.{Bool, true, false, false≢true}
+use mathlib.Core.List.{List, [], _∷_, _++_, append-nil}
+use Prim.Native.Nat.{ℕ, suc, _+_, _-_, _<_}
+use native.Mathlib.Omega.{arith}
+use borrow.Author.Tests.{ltb-true}
+use lib.Dec.{ltb}
+use lib.ListN.{length, getD, length-append}
+use Rattle.record.specs.declared.Record.{Record}
+use Rattle.record.specs.declared.answer.Reading.the-variants as reading
+use Rattle.forms.specs.Form.{Form, bytesBy, readBy, sumOf, withSum}
+use Rattle.forms.specs.Places.{Row, bytesOf, fixed, part, placed}
+use Rattle.forms.specs.Slots.{Values}
+use Rattle.forms.specs.Told.{told}
+use Rattle.forms.specs.Valid.{endByte, lastByte}
+use Rattle.forms.proofs.ReadWrite.{read-write}
+use Rattle.forms.proofs.Sound.{isSoundForm, sound-form}
+
+-- the row ends with fixed bytes
+unfoldable pub endsFixed : Row → Bool
+endsFixed [] = false
+endsFixed (part c f ∷ []) = false
+endsFixed (fixed bs ∷ []) = ltb 0 (length bs)
+endsFixed (p ∷ q ∷ ps) = endsFixed (q ∷ ps)
+
+getD-behind : (a b : List ℕ) (i : ℕ) → getD (a ++ b) (length a + i) 0 ≡ getD b i 0
+getD-behind [] b i = let e : 0 + i ≡ i = omega arith in rw e
+getD-behind (x ∷ a) b i = let e : suc (length a) + i ≡ suc (length a + i) = omega arith in rw e (getD-behind a b i)
+
+last-behind : (a b : List ℕ) → 0 < length b → lastByte (a ++ b) ≡ lastByte b
+last-behind a b h =
+    let e : length a + length b - 1 ≡ length a + (length b - 1) = omega arith in
+    rw (length-append, e) (getD-behind a b (length b - 1))
+
+some-bytes : (ps : Row) (v : Values) → endsFixed ps ≡ true → 0 < length (bytesOf ps v)
+unfolding endsFixed bytesOf
+some-bytes [] v h = absurd (false≢true h)
+some-bytes (part c f ∷ []) v h = absurd (false≢true h)
+some-bytes (fixed bs ∷ []) v h = rw append-nil (ltb-true 0 (length bs) h)
+some-bytes (p ∷ q ∷ ps) v h = let l = some-bytes (q ∷ ps) v h in rw length-append (omega arith)
+
+row-end : (ps : Row) (v : Values) → endsFixed ps ≡ true → lastByte (bytesOf ps v) ≡ endByte ps
+unfolding endsFixed bytesOf
+row-end [] v h = absurd (false≢true h)
+row-end (part c f ∷ []) v h = absurd (false≢true h)
+row-end (fixed bs ∷ []) v h = rw append-nil refl
+row-end (p ∷ q ∷ ps) v h = last-behind (placed p v) (bytesOf (q ∷ ps) v) (some-bytes (q ∷ ps) v h) ∙ row-end (q ∷ ps) v h
+
+pub end-byte : (d : Form) → isSoundForm d ≡ true → endsFixed (d .row) ≡ true → (s : List ℕ) (r : Record) → readBy d s ≡ reading.Read r
+    → lastByte s ≡ endByte (d .row)
+unfolding bytesBy
+end-byte d o t s r h =
+    subst (λ (x : List ℕ). lastByte x ≡ endByte (d .row)) (read-write d (sound-form d o) s r h .same-bytes)
+    (row-end (d .row) (withSum (told r) (sumOf (d .sum) (bytesOf (d .row) (told r)))) t)
