@@ -1,0 +1,62 @@
+-- The marks still to be stored make of the marks as they are what the marks of all bytes make of those at entry.
+use mathlib.Core.List.{List, [], _∷_}
+use mathlib.Core.Path.{_≡_, refl, _∙_, ap}
+use Prim.Native.Nat.{ℕ, suc, _+_, _≤_, _<_}
+use native.Mathlib.Numerals.{add-one}
+use native.Mathlib.Omega.{arith}
+use borrow.Author.Tests.{eq-eqb, le-leb, lt-leb, ne-eqb}
+use lib.ListN.{length, getD, drop, set, drop-of-length-le}
+use lib.Seq.{drop-cons, sets, sets-eq}
+use Rattle.record.specs.declared.Record.{Record}
+use Rattle.record.specs.declared.answer.Writing.the-variants as writing
+use Rattle.record.specs.declared.refusal.Refusal.the-variants as refusal
+use Rattle.forms.specs.Valid.{lengthOf, validOf}
+use Rattle.stream.specs.Answer.{Answer}
+use Rattle.stream.specs.Heard.{heardAll}
+use Rattle.stream.specs.Machine.{answers}
+use Rattle.stream.proofs.Records.{length-heard}
+use Rattle.listener.specs.Listening.{answerTo, hears, nextOf}
+use Rattle.listener.specs.Marks.{Marked, markAnswer, markOf, marksOf}
+use Rattle.listener.specs.declared.Listener.{Listener}
+use Rattle.listener.proofs.Demand3.{hears-all}
+
+-- the marks from byte i on, fed to the state l
+abbrev pub rest : Listener → List ℕ → ℕ → List ℕ
+rest l s i = marksOf (answers nextOf answerTo l (drop i s))
+
+pub mark-step : (m : List ℕ) (l : Listener) (s : List ℕ) (i : ℕ) → i < length s
+    → sets m i (rest l s i) ≡ sets (set m i (markOf (answerTo l (getD s i 0)))) (i + 1) (rest (nextOf l (getD s i 0)) s (i + 1))
+unfolding answers marksOf
+mark-step m l s i h = rw (add-one, drop-cons s i 0)
+
+pub mark-end : (m : List ℕ) (l : Listener) (s : List ℕ) (i : ℕ) → length s ≤ i → sets m i (rest l s i) ≡ m
+unfolding answers marksOf
+mark-end m l s i h = rw (drop-of-length-le s h)
+
+marks-length : (list : List (Answer Record)) → length (marksOf list) ≡ length list
+unfolding marksOf
+marks-length [] = refl
+marks-length (a ∷ list) = ap suc (marks-length list)
+
+module _ (form : ℕ) (s before : List ℕ) where
+  pub no-form : lengthOf form ≡ 0 → Marked form s (writing.Refused refusal.UnknownForm) before before
+  unfolding markAnswer
+  no-form e = record { answer = rw (eq-eqb (lengthOf form) 0 e); left = refl }
+
+  module _ (known : lengthOf form ≡ 0 → ⊥) where
+    pub no-room : length before < length s → Marked form s (writing.Refused refusal.ShortBuffer) before before
+    unfolding markAnswer
+    no-room h = record { answer = rw (ne-eqb (lengthOf form) 0 known, lt-leb (length s) (length before) h); left = refl }
+
+    pub all-marked : (after : List ℕ) → length s ≤ length before → after ≡ sets before 0 (marksOf (hears form s))
+        → Marked form s (writing.Written (length s)) before after
+    unfolding markAnswer heardAll
+    all-marked after h e =
+        let marks = marksOf (heardAll (lengthOf form) (validOf form) s) in
+        let l : length marks ≡ length s = marks-length _ ∙ length-heard (lengthOf form) (validOf form) s (length s) 1 in
+        let z : 0 + length s ≡ length s = omega arith in
+        let laid = sets-eq marks before 0 (rw l (omega arith)) in
+        record {
+          answer = rw (ne-eqb (lengthOf form) 0 known, le-leb (length s) (length before) h);
+          left = e ∙ ap (λ (x : List (Answer Record)). sets before 0 (marksOf x)) (hears-all form (omega arith) s) ∙ laid ∙ rw (l, z);
+        }

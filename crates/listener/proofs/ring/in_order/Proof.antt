@@ -1,0 +1,65 @@
+-- Each turn lays one byte more of the ring into the row.
+use mathlib.Core.Path.{_≡_}
+use Prim.Native.Nat.{_-_, _≤_}
+use borrow.Author.Needs.{needs}
+use native.Mathlib.Omega.{arith}
+use lib.ListN.{length, take, length-set}
+use Rattle.listener.specs.Ring.{oldestFirst}
+use Rattle.listener.proofs.Rings.{one-more}
+use Rattle.listener.proofs.ring.in_order.Statement.{statement}
+use Rattle.listener.proofs.ring.in_order.Tie as tie
+
+abbrev Inv-loop : tie.InvT-loop
+Inv-loop from n y z₀ i₀ z i = (i ≤ n) × ((length z ≡ 66) × (take i z ≡ take i (oldestFirst from y)))
+
+abbrev μ-loop : tie.MeasureT-loop
+μ-loop from n y z₀ i₀ z i = n - i
+
+loop-holds : tie.Need-loop-holds Inv-loop μ-loop
+loop-holds c = search needs
+
+add-wrap : tie.Need-add-wrap Inv-loop μ-loop
+add-wrap c = search needs
+
+wrap-requires : tie.Need-wrap-requires Inv-loop μ-loop
+wrap-requires c κs = search needs
+
+array-read-z : tie.Need-array-read-z Inv-loop μ-loop
+array-read-z c = search needs
+
+array-write-z : tie.Need-array-write-z Inv-loop μ-loop
+array-write-z c = search needs
+
+add-i : tie.Need-add-i Inv-loop μ-loop
+add-i c = search needs
+
+loop-less : tie.Need-loop-less Inv-loop μ-loop
+loop-less c = search needs
+
+loop-again : tie.Need-loop-again Inv-loop μ-loop
+loop-again c =
+    let a = c .before .before .before .args in
+    let l = c .before .before .loop in
+    (search needs, (simp length-set (l .inv .1 .0), one-more (a .t1) (a .from) (search needs) (search needs) (l .z) (l .i) (c .wrap .result) (omega arith) (l .inv .1 .0) (c .wrap .ensures .0) (l .inv .1 .1)))
+
+returns : tie.Need-returns Inv-loop μ-loop
+returns c =
+    let l = c .before .loop in
+    let e : l .i ≡ c .before .before .args .n = omega arith in
+    rw e at (l .inv .1 .1)
+
+pub in-order-spec : {M : Type 1} → statement M
+in-order-spec =
+    tie.close
+    (tie.spec
+    Inv-loop
+    μ-loop
+    loop-holds
+    add-wrap
+    wrap-requires
+    array-read-z
+    array-write-z
+    add-i
+    loop-less
+    loop-again
+    returns)

@@ -1,0 +1,4 @@
+pub mod Ring
+pub mod Listening
+pub mod Demand3
+pub mod Marks

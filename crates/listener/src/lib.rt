@@ -1,0 +1,201 @@
+// A listener for a stream of the strings of one serial form.
+ghost use mathlib.Core.Path.{_≡_};
+ghost use mathlib.Core.Option.{none};
+ghost use lib.Dec.{eqb};
+ghost use Prim.Native.Nat.{_+_, _-_, _≤_, _<_, min};
+ghost use lib.ListN.{getD};
+ghost use Rattle.choice.specs.Pick.{pick};
+ghost use Rattle.forms.specs.Valid.{lengthOf, recordIn, validOf};
+ghost use Rattle.stream.specs.Distance.{distanceAfter, unlessOverlap};
+ghost use Rattle.stream.specs.Window.{lastOf};
+ghost use Rattle.listener.specs.Ring.{oldestFirst};
+ghost use Rattle.listener.specs.Listening.{FedBy, answerOf, startNumber, startedOf};
+use record::Record;
+use record::answer::Reading;
+use record::refusal::Refusal;
+
+mod marks;
+mod ring;
+
+pub use marks::mark;
+
+// The last bytes fed stand in a ring, the last `kept` of them count, and the next one goes to place `at`.
+pub struct Listener {
+    pub bytes: [u8; 66],
+    pub at: usize,
+    pub kept: usize,
+    pub distance: usize,
+    pub form: u32,
+}
+
+pub enum Heard {
+    Handed(Record),
+    Nothing,
+    Refused(Refusal),
+}
+
+// The answer to a byte, beside the next state.
+pub struct Fed {
+    pub next: Listener,
+    pub heard: Heard,
+}
+
+pub enum Starting {
+    Fresh,
+    Refused(Refusal),
+}
+
+// A new listener, beside the answer to its start.
+pub struct Started {
+    pub listener: Listener,
+    pub answer: Starting,
+}
+
+impl Starting {
+    // The number of the refusal, 0 for none.
+    pub fn number(self) -> u32
+        ensures { λ r. ⌜ r ≡ startNumber self ⌝ }
+    {
+        match self {
+            Starting::Fresh => 0,
+            Starting::Refused(x) => x.number(),
+        }
+    }
+}
+
+// The last n bytes of a ring, read.
+fn newest(form: u32, y: [u8; 66], at: usize, n: usize) -> Reading
+    requires { ⌜ (at < 66) × ((0 < n) × (n ≤ 66)) ⌝ }
+    ensures { λ r. ⌜ recordIn r ≡ validOf form (lastOf n (oldestFirst at y)) ⌝ }
+{
+    let from = ring::wrap(at + (66 - n));
+    let z = ring::in_order(y, from, n);
+    serial::read(form, &z[0..n])
+}
+
+// The string that byte b completes. The byte itself, the count and the first byte are tested before the reader runs.
+fn completed(form: u32, y: [u8; 66], at: usize, n: usize, kept: usize, b: u8) -> Reading
+    requires { ⌜ (at < 66) × ((n ≡ lengthOf form) × ((kept < n) × ((n ≤ 66) × (getD (oldestFirst at y) 65 0 ≡ b)))) ⌝ }
+    ensures { λ r. ⌜ recordIn r ≡ pick (eqb (kept + 1) n) (validOf form (lastOf n (oldestFirst at y))) none ⌝ }
+{
+    if b != serial::end_of(form) {
+        return Reading::Refused(Refusal::WrongByte);
+    }
+    if kept + 1 != n {
+        return Reading::Refused(Refusal::WrongLength);
+    }
+    let first = ring::wrap(at + (66 - n));
+    if y[first] != serial::start_of(form) {
+        return Reading::Refused(Refusal::WrongByte);
+    }
+    newest(form, y, at, n)
+}
+
+// The record of a string that was completed, if it ends n bytes or more behind the last one handed out.
+fn handed_out(reading: Reading, distance: usize, n: usize) -> Heard
+    requires { ⌜ (distance ≤ n) × (n ≤ 66) ⌝ }
+    ensures { λ r. ⌜ answerOf r ≡ unlessOverlap n distance (recordIn reading) ⌝ }
+{
+    match reading {
+        Reading::Read(r) => {
+            if distance + 1 < n {
+                Heard::Refused(Refusal::Overlap)
+            } else {
+                Heard::Handed(r)
+            }
+        }
+        Reading::Refused(_) => Heard::Nothing,
+    }
+}
+
+fn one_more(distance: usize, n: usize) -> usize
+    requires { ⌜ distance ≤ n ⌝ }
+    ensures { λ r. ⌜ r ≡ min n (distance + 1) ⌝ }
+{
+    if distance < n { distance + 1 } else { n }
+}
+
+fn distance_after(answer: Heard, distance: usize, n: usize) -> usize
+    requires { ⌜ (distance ≤ n) × (n ≤ 66) ⌝ }
+    ensures { λ r. ⌜ r ≡ distanceAfter n distance (answerOf answer) ⌝ }
+{
+    match answer {
+        Heard::Handed(_) => 0,
+        Heard::Nothing => one_more(distance, n),
+        Heard::Refused(_) => one_more(distance, n),
+    }
+}
+
+fn kept_after(kept: usize, n: usize) -> usize
+    requires { ⌜ kept < n ⌝ }
+    ensures { λ r. ⌜ r ≡ min (kept + 1) (n - 1) ⌝ }
+{
+    if kept + 1 == n { kept } else { kept + 1 }
+}
+
+impl Listener {
+    pub fn new(form: u32) -> Started
+        ensures { λ r. ⌜ r ≡ startedOf form ⌝ }
+    {
+        let n = serial::length_of(form);
+        if n == 0 {
+            return Started {
+                listener: Listener {
+                    bytes: [0u8; 66],
+                    at: 0,
+                    kept: 0,
+                    distance: 0,
+                    form: 0,
+                },
+                answer: Starting::Refused(Refusal::UnknownForm),
+            };
+        }
+        Started {
+            listener: Listener {
+                bytes: [0u8; 66],
+                at: 0,
+                kept: 0,
+                distance: n,
+                form,
+            },
+            answer: Starting::Fresh,
+        }
+    }
+
+    pub fn feed(self, b: u8) -> Fed
+        ensures { λ r. ⌜ FedBy self b r ⌝ }
+    {
+        let form = self.form;
+        let n = serial::length_of(form);
+        let kept = self.kept;
+        let distance = self.distance;
+        if n <= kept {
+            return Fed {
+                next: self,
+                heard: Heard::Refused(Refusal::BadState),
+            };
+        }
+        if n < distance {
+            return Fed {
+                next: self,
+                heard: Heard::Refused(Refusal::BadState),
+            };
+        }
+        let place = ring::place(self.at);
+        let before = self.bytes;
+        let bytes = ring::with_byte(before, place, b);
+        let at = ring::wrap(place + 1);
+        let reading = completed(form, bytes, at, n, kept, b);
+        let answer = handed_out(reading, distance, n);
+        Fed {
+            next: Listener {
+                bytes,
+                at,
+                kept: kept_after(kept, n),
+                distance: distance_after(answer, distance, n),
+                form,
+            },
+            heard: answer,
+        }
+    }
+}
