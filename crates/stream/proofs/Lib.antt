@@ -7,5 +7,7 @@ pub mod Records
 pub mod Listener
 pub mod Search
 pub mod Repeated
+pub mod Pieces
+pub mod Few
 pub mod Listens
 pub mod Distance

@@ -1,0 +1,15 @@
+-- A list of n times 0 has n elements; the law over n spares counting them.
+use mathlib.Core.Path.{_≡_, sym}
+use Prim.Native.Nat.{ℕ}
+use lib.ListN.{length, length-replicate, replicate}
+use Rattle.heard.proofs.output.Statement.{statement}
+use Rattle.heard.proofs.output.Tie as tie
+
+zeros : (n : ℕ) → n ≡ length {A = ℕ} (replicate n 0)
+zeros n = sym (length-replicate n 0)
+
+returns : tie.Need-returns
+returns c = zeros 720896
+
+pub output-spec : {M : Type 1} → statement M
+output-spec = tie.close (tie.spec returns)

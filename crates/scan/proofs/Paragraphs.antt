@@ -1,0 +1,72 @@
+-- A good record's block and empty line: how many bytes they have, and what writing them leaves in a buffer.
+use mathlib.Core.Bool.{true}
+use mathlib.Core.List.{List, [], _∷_, _++_}
+use mathlib.Core.Path.{_≡_, sym, _∙_, ap}
+use Prim.Native.Nat.{ℕ, _+_, _≤_, _<_}
+use native.Mathlib.Numerals.{add-one}
+use native.Mathlib.Omega.{arith}
+use lib.ListN.{length, getD, drop, set, length-append, length-drop}
+use lib.Seq.{append-snoc, drop-cons, set-at}
+use Rattle.record.specs.declared.Record.{Record}
+use Rattle.record.specs.declared.answer.Writing.{Writing}
+use Rattle.record.specs.declared.answer.Writing.the-variants as writing
+use Rattle.record.specs.declared.refusal.Refusal.{Refusal}
+use Rattle.record.specs.Record.{isGood}
+use Rattle.forms.specs.Block.{blockOf, choices}
+use Rattle.forms.specs.Form.{Wrote, bytesBy, writeBy}
+use Rattle.forms.specs.Told.{told}
+use Rattle.forms.proofs.Block.{block-size, block-written}
+use Rattle.forms.proofs.BlockRecord.{own-choice, own-worded}
+use Rattle.forms.proofs.BlockRow.{block-sound}
+use Rattle.forms.proofs.Keeps.{left-written}
+use Rattle.forms.proofs.WriteRead.{write-length}
+use Rattle.scan.specs.Printed.{paragraph}
+
+module _ (r : Record) (g : isGood r ≡ true) where
+  block-long : length (bytesBy (blockOf r) (told r)) ≡ blockOf r .size
+  unfolding blockOf
+  block-long = write-length (blockOf r) (block-sound (choices r) (own-choice r)) r g (own-worded r g)
+
+  paragraph-long : length (paragraph r) ≡ blockOf r .size + 1
+  unfolding paragraph
+  paragraph-long = length-append (bytesBy (blockOf r) (told r)) (10 ∷ []) ∙ rw block-long
+
+  pub paragraph-most : length (paragraph r) ≤ 175
+  paragraph-most = omega (arith, paragraph-long, block-size r g)
+
+  module _ (out after : List ℕ) (room : 175 ≤ length out) where
+    answered : writeBy (blockOf r) r (length out) ≡ writing.Written (blockOf r .size)
+    answered = block-written r (length out) g (omega (arith, block-size r g))
+
+    pub not-refused : (w : Writing) (x : Refusal) → w ≡ writing.Refused x → Wrote (blockOf r) r w out after → ⊥
+    not-refused w x e h =
+        let a = h .answer in
+        let b = answered in
+        let z : _≡_ {A = ℕ} 0 1 = cc in
+        omega arith
+
+    module _ (w : Writing) (n : ℕ) (e : w ≡ writing.Written n) (h : Wrote (blockOf r) r w out after) where
+      size : n ≡ blockOf r .size
+      size =
+          let a = h .answer in
+          let b = answered in
+          cc
+
+      left : after ≡ bytesBy (blockOf r) (told r) ++ drop n out
+      left = h .left ∙ left-written (blockOf r) r out n (sym (h .answer) ∙ e)
+
+      inside : n < length out
+      inside = omega (arith, size, block-size r g)
+
+      pub closes : n < length after
+      closes = omega (arith, inside, size, block-long, ap length left, length-append (bytesBy (blockOf r) (told r)) (drop n out), length-drop n out)
+
+      pub closed-long : n + 1 ≡ length (paragraph r)
+      closed-long = omega (arith, size, paragraph-long)
+
+      pub closed : set after n 10 ≡ paragraph r ++ drop (n + 1) out
+      unfolding paragraph
+      closed =
+          let bytes = bytesBy (blockOf r) (told r) in
+          rw (left, drop-cons out n 0 inside, set-at bytes (getD out n 0) _ 10 n (block-long ∙ sym size), add-one)
+          (sym (append-snoc bytes 10 _))

@@ -1,0 +1,59 @@
+// The last line that the program prints.
+ghost use mathlib.Core.Path.{_≡_};
+ghost use Prim.Native.Nat.{_+_, _≤_};
+ghost use lib.ListN.{length};
+ghost use lib.Seq.{sets};
+ghost use Rattle.spelling.specs.Bytes.{decimal};
+ghost use Rattle.scan.specs.Closing.{Ended, placesOf};
+use record::answer::Writing;
+use record::refusal::Refusal;
+
+// How many digits a number has: 20 at the most, which hold every u64.
+fn places(n: u64) -> usize
+    ensures { λ k. ⌜ (k ≡ placesOf n) × (k ≤ 20) ⌝ }
+{
+    let mut rest = n;
+    let mut k = 1;
+    while k < 20 {
+        if rest < 10 {
+            return k;
+        }
+        rest = rest / 10;
+        k += 1;
+    }
+    k
+}
+
+// Puts the last w digits of a count at a place of out.
+fn put_count(out: &mut [u8], at: usize, w: usize, n: u64)
+    requires { ⌜ at + w ≤ length (now out) ⌝ }
+    ensures { λ _. ⌜ now (out .exit) ≡ sets (now (out .entry)) at (decimal w n) ⌝ }
+{
+    let mut rest = n;
+    let mut i = w;
+    while 0 < i {
+        i -= 1;
+        out[at + i] = (rest % 10 + 48) as u8;
+        rest = rest / 10;
+    }
+}
+
+// `end bytes=35 telegrams=1`
+pub fn write_end(bytes: u64, telegrams: u64, out: &mut [u8]) -> Writing
+    ensures { λ w. ⌜ Ended bytes telegrams w (now (out .entry)) (now (out .exit)) ⌝ }
+{
+    let b = places(bytes);
+    let t = places(telegrams);
+    let key = 10 + b;
+    let count = key + 11;
+    let end = count + t;
+    if out.len() <= end {
+        return Writing::Refused(Refusal::ShortBuffer);
+    }
+    spelling::put_bytes(out, 0, b"end bytes=");
+    put_count(out, 10, b, bytes);
+    spelling::put_bytes(out, key, b" telegrams=");
+    put_count(out, count, t, telegrams);
+    spelling::put_byte(out, end, b'\n');
+    Writing::Written(end + 1)
+}

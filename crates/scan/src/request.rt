@@ -1,0 +1,23 @@
+// The first line of the program's input.
+ghost use mathlib.Core.Path.{_≡_};
+ghost use Rattle.scan.specs.Request.{formOf};
+
+// The form that a first line asks for, 0 where it is a bad one: one byte `1`..`7` and LF.
+pub fn form_of(line: &[u8]) -> u32
+    ensures { λ form. ⌜ form ≡ formOf (now (line .entry)) ⌝ }
+{
+    if line.len() != 2 {
+        return 0;
+    }
+    if line[1] != b'\n' {
+        return 0;
+    }
+    let b = line[0];
+    if b < b'1' {
+        return 0;
+    }
+    if b'7' < b {
+        return 0;
+    }
+    (b - b'0') as u32
+}
