@@ -34,7 +34,7 @@ joined-all f i e = ap (λ (n : ℕ). joined (take n f)) e ∙ ap joined (take-le
 
 -- stores
 
-sets-append : (o : List ℕ) (i : ℕ) (a b : List ℕ) → sets (sets o i a) (i + length a) b ≡ sets o i (a ++ b)
+pub sets-append : (o : List ℕ) (i : ℕ) (a b : List ℕ) → sets (sets o i a) (i + length a) b ≡ sets o i (a ++ b)
 sets-append o i [] b = ap (λ (n : ℕ). sets o n b) (add-zero i)
 sets-append o i (x ∷ a) b =
     let e : i + suc (length a) ≡ suc i + length a = omega arith in

@@ -1,0 +1,64 @@
+-- Buffers that are too short are refused; else the next state is stored, and the record if one is handed out.
+use mathlib.Core.Path.{_∙_, ap}
+use denote.Ref.{now}
+use Rattle.listener.specs.Listening.{nextOf}
+use Rattle.lindenscoop.proofs.Answers.{fed-as, fed-short, record-short, state-short}
+use Rattle.lindenscoop.proofs.Small.{next-fits, of-bytes}
+use borrow.Author.Needs.{needs}
+use Rattle.lindenscoop.proofs.listens.lindenscoop_feed.Statement.{statement}
+use Rattle.lindenscoop.proofs.listens.lindenscoop_feed.Tie as tie
+
+returns : tie.Need-returns
+returns c =
+    let a = c .before .before .before .args in
+    fed-short (now (a .state)) (a .byte) (now (a .row)) (state-short (now (a .state)) (now (a .row)) (c .if1 .taken))
+
+returns-2 : tie.Need-returns-2
+returns-2 c =
+    let a = c .before .before .before .before .args in
+    fed-short (now (a .state)) (a .byte) (now (a .row)) (record-short (now (a .state)) (now (a .row)) (c .before .if1 .left) (c .if2 .taken))
+
+listener-of-requires : tie.Need-listener-of-requires
+listener-of-requires c κs = search needs
+
+feed-requires : tie.Need-feed-requires
+feed-requires c κs = search needs
+
+put-state-requires : tie.Need-put-state-requires
+put-state-requires c κs =
+    let a = c .before .before .before .before .before .before .before .before .before .args in
+    let next = c .before .before .feed .ensures .next ∙ ap (λ l. nextOf l (a .byte)) (c .before .before .before .listener-of .ensures) in
+    (c .before .before .before .before .before .before .if1 .left, rw next (next-fits _ (a .byte) (of-bytes (now (a .state)) (c .before .before .before .before .before .before .before .before .slice-known .given))))
+
+put-heard-requires : tie.Need-put-heard-requires
+put-heard-requires c κs = search needs
+
+heard-number-requires : tie.Need-heard-number-requires
+heard-number-requires c κs = search needs
+
+same-length : tie.Need-same-length
+same-length c = search needs
+
+same-length-2 : tie.Need-same-length-2
+same-length-2 c = search needs
+
+returns-3 : tie.Need-returns-3
+returns-3 c =
+    let a = c .before .before .before .before .before .before .before .before .before .before .before .before .before .before .before .before .before .args in
+    let fed = c .before .before .before .before .before .before .before .before .before .before .feed .ensures in
+    fed-as (now (a .state)) (a .byte) (now (a .row)) (c .before .before .before .before .before .before .before .before .before .before .before .before .before .before .if1 .left) (c .before .before .before .before .before .before .before .before .before .before .before .before .before .if2 .left) _ (c .before .before .before .before .before .before .before .before .before .before .before .listener-of .ensures) (c .before .before .before .before .before .before .before .before .before .before .feed .result .heard) (fed .next) (fed .answer) (c .heard-number .ensures) (c .before .before .before .before .before .before .before .put-state .ensures) (c .before .before .before .put-heard .ensures)
+
+pub lindenscoop-feed-spec : {M : Type 1} → statement M
+lindenscoop-feed-spec =
+    tie.close
+    (tie.spec
+    returns
+    returns-2
+    listener-of-requires
+    feed-requires
+    put-state-requires
+    put-heard-requires
+    heard-number-requires
+    same-length
+    same-length-2
+    returns-3)

@@ -1,0 +1,67 @@
+-- The run over all bytes is the run over those that are left, behind those that were answered by nothing.
+use mathlib.Core.Path.{_≡_, sym, _∙_, ap}
+use Prim.Native.Nat.{_-_, _≤_}
+use lib.ListN.{length, drop}
+use Rattle.lindenscoop.specs.Run.{isAnswer, runOf}
+use Rattle.lindenscoop.proofs.Runs.{answered, behind, behind-none, ended, goes-on}
+use borrow.Author.Needs.{needs}
+use native.Mathlib.Omega.{arith}
+use Rattle.lindenscoop.proofs.run.feed_until.Statement.{statement}
+use Rattle.lindenscoop.proofs.run.feed_until.Tie as tie
+
+abbrev Inv-loop : tie.InvT-loop
+Inv-loop bytes listener₀ i₀ listener i = (i ≤ length bytes) × (runOf listener₀ bytes ≡ behind i (runOf listener (drop i bytes)))
+
+abbrev μ-loop : tie.MeasureT-loop
+μ-loop bytes listener₀ i₀ listener i = length bytes - i
+
+loop-holds : tie.Need-loop-holds Inv-loop μ-loop
+loop-holds c = (omega arith, behind-none _)
+
+shared-slice-read-feed : tie.Need-shared-slice-read-feed Inv-loop μ-loop
+shared-slice-read-feed c = search needs
+
+feed-requires : tie.Need-feed-requires Inv-loop μ-loop
+feed-requires c κs = search needs
+
+add-i : tie.Need-add-i Inv-loop μ-loop
+add-i c = omega arith
+
+is-answer-requires : tie.Need-is-answer-requires Inv-loop μ-loop
+is-answer-requires c κs = search needs
+
+returns : tie.Need-returns Inv-loop μ-loop
+returns c =
+    let q = c .before .before .before .before .before .before .loop in
+    let fed = c .before .before .before .feed .ensures in
+    answered _ (q .listener) _ (q .i) (q .inv .1) (omega arith) (sym (ap isAnswer (fed .answer)) ∙ sym (c .before .is-answer .ensures) ∙ c .if1 .taken) _ (fed .answer) _ (fed .next)
+
+loop-less : tie.Need-loop-less Inv-loop μ-loop
+loop-less c = omega arith
+
+loop-again : tie.Need-loop-again Inv-loop μ-loop
+loop-again c =
+    let q = c .before .before .before .before .before .before .loop in
+    let fed = c .before .before .before .feed .ensures in
+    (omega arith, goes-on _ (q .listener) _ (q .i) (q .inv .1) (omega arith) (sym (ap isAnswer (fed .answer)) ∙ sym (c .before .is-answer .ensures) ∙ c .if1 .left) ∙ rw (fed .next))
+
+returns-2 : tie.Need-returns-2 Inv-loop μ-loop
+returns-2 c =
+    let q = c .before .loop in
+    ended _ (q .listener) _ (q .i) (q .inv .1) (omega arith) (q .inv .0)
+
+pub feed-until-spec : {M : Type 1} → statement M
+feed-until-spec =
+    tie.close
+    (tie.spec
+    Inv-loop
+    μ-loop
+    loop-holds
+    shared-slice-read-feed
+    feed-requires
+    add-i
+    is-answer-requires
+    returns
+    loop-less
+    loop-again
+    returns-2)

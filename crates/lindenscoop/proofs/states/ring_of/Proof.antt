@@ -1,0 +1,56 @@
+-- Each turn copies one byte more of the head.
+use mathlib.Core.Path.{_≡_, sym, _∙_}
+use Prim.Native.Nat.{_-_, _≤_}
+use lib.ListN.{length, take, length-set}
+use lib.Seq.{take-all}
+use Rattle.lindenscoop.proofs.Heads.{one-more}
+use borrow.Author.Needs.{needs}
+use native.Mathlib.Omega.{arith}
+use Rattle.lindenscoop.proofs.states.ring_of.Statement.{statement}
+use Rattle.lindenscoop.proofs.states.ring_of.Tie as tie
+
+abbrev Inv-loop : tie.InvT-loop
+Inv-loop s y₀ i₀ y i = (i ≤ 66) × ((length y ≡ 66) × (take i y ≡ take i s))
+
+abbrev μ-loop : tie.MeasureT-loop
+μ-loop s y₀ i₀ y i = 66 - i
+
+loop-holds : tie.Need-loop-holds Inv-loop μ-loop
+loop-holds c = search needs
+
+shared-slice-read-y : tie.Need-shared-slice-read-y Inv-loop μ-loop
+shared-slice-read-y c = search needs
+
+array-write-y : tie.Need-array-write-y Inv-loop μ-loop
+array-write-y c = search needs
+
+add-i : tie.Need-add-i Inv-loop μ-loop
+add-i c = search needs
+
+loop-less : tie.Need-loop-less Inv-loop μ-loop
+loop-less c = search needs
+
+loop-again : tie.Need-loop-again Inv-loop μ-loop
+loop-again c =
+    let l = c .before .before .loop in
+    (search needs, (simp length-set (l .inv .1 .0), one-more _ (l .y) (l .i) (omega arith) (omega arith) (l .inv .1 .1)))
+
+returns : tie.Need-returns Inv-loop μ-loop
+returns c =
+    let l = c .before .loop in
+    let e : l .i ≡ 66 = omega arith in
+    sym (take-all 66 (l .y) (omega arith)) ∙ (rw e at (l .inv .1 .1))
+
+pub ring-of-spec : {M : Type 1} → statement M
+ring-of-spec =
+    tie.close
+    (tie.spec
+    Inv-loop
+    μ-loop
+    loop-holds
+    shared-slice-read-y
+    array-write-y
+    add-i
+    loop-less
+    loop-again
+    returns)

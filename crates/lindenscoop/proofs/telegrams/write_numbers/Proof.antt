@@ -1,0 +1,54 @@
+-- A record is written; numbers that are none are refused behind an unknown form.
+use mathlib.Core.Path.{sym, _∙_}
+use denote.Ref.{now}
+use Rattle.lindenscoop.proofs.Written.{no-form, no-record, wrote}
+use borrow.Author.Needs.{needs}
+use Rattle.lindenscoop.proofs.telegrams.write_numbers.Statement.{statement}
+use Rattle.lindenscoop.proofs.telegrams.write_numbers.Tie as tie
+
+record-of-requires : tie.Need-record-of-requires
+record-of-requires c κs = search needs
+
+enum-known-reading : tie.Need-enum-known-reading
+enum-known-reading c = search needs
+
+write-requires : tie.Need-write-requires
+write-requires c κs = search needs
+
+enum-known-reading-2 : tie.Need-enum-known-reading-2
+enum-known-reading-2 c = search needs
+
+is-form-requires : tie.Need-is-form-requires
+is-form-requires c κs = search needs
+
+same-length : tie.Need-same-length
+same-length c = search needs
+
+returns : tie.Need-returns
+returns c =
+    let a = c .before .before .before .before .before .before .before .before .before .before .args in
+    wrote (a .form) (now (a .row)) (now (a .out)) _ (sym (c .before .before .before .before .before .before .before .record-of .ensures) ∙ c .before .before .before .before .before .reading .given .1) (c .before .before .write .ensures)
+
+returns-2 : tie.Need-returns-2
+returns-2 c =
+    let a = c .before .before .before .before .before .before .before .before .args in
+    no-record (a .form) (now (a .row)) (now (a .out)) _ (sym (c .before .before .before .before .before .record-of .ensures) ∙ c .before .before .before .reading2 .given .1) (sym (c .before .is-form .ensures) ∙ c .if1 .taken)
+
+returns-3 : tie.Need-returns-3
+returns-3 c =
+    let a = c .before .before .before .before .before .before .before .before .args in
+    no-form (a .form) (now (a .row)) (now (a .out)) _ (sym (c .before .before .before .before .before .record-of .ensures) ∙ c .before .before .before .reading2 .given .1) (sym (c .before .is-form .ensures) ∙ c .if1 .left)
+
+pub write-numbers-spec : {M : Type 1} → statement M
+write-numbers-spec =
+    tie.close
+    (tie.spec
+    record-of-requires
+    enum-known-reading
+    write-requires
+    enum-known-reading-2
+    is-form-requires
+    same-length
+    returns
+    returns-2
+    returns-3)

@@ -1,0 +1,32 @@
+-- Buffers that a caller lends for a record and for a listener.
+use mathlib.Core.Bool.{Bool}
+use mathlib.Core.List.{List, _++_}
+use Prim.Native.Nat.{ℕ}
+use lib.Dec.{leb}
+use lib.ListN.{drop, length}
+use Rattle.record.specs.declared.Record.{Record}
+use Rattle.record.specs.declared.refusal.Refusal.the-variants as refusal
+use Rattle.record.specs.Refusal.{numberOf}
+use Rattle.listener.specs.declared.Listener.{Listener}
+use Rattle.numbers.specs.Told.{numbersOf}
+use Rattle.lindenscoop.specs.States.{stateBytes}
+
+-- there is room for a record
+abbrev pub recordFits : List ℕ → Bool
+recordFits r = leb 29 (length r)
+
+-- there is room for a listener
+abbrev pub stateFits : List ℕ → Bool
+stateFits s = leb 70 (length s)
+
+-- the refusal for want of room, which is tested before all else and changes nothing
+abbrev pub tooShort : ℕ
+tooShort = numberOf refusal.ShortBuffer
+
+-- a record at the head of its buffer
+abbrev pub shown : Record → List ℕ → List ℕ
+shown x r = numbersOf x ++ drop 29 r
+
+-- a listener at the head of its buffer
+abbrev pub held : Listener → List ℕ → List ℕ
+held l s = stateBytes l ++ drop 70 s

@@ -1,0 +1,9 @@
+pub mod States
+pub mod Buffers
+pub mod Run
+pub mod Listens
+pub mod Finds
+pub mod Meanings
+pub mod Telegrams
+pub mod Chained
+pub mod Marks

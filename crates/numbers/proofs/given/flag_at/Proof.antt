@@ -1,0 +1,27 @@
+-- Each answer is that of the tests before it.
+use borrow.Author.Tests.{eq-eqb, ne-eqb}
+use Rattle.numbers.specs.Given.{flagAt}
+use borrow.Author.Needs.{needs}
+use Rattle.numbers.proofs.given.flag_at.Statement.{statement}
+use Rattle.numbers.proofs.given.flag_at.Tie as tie
+
+mul-kind : tie.Need-mul-kind
+mul-kind c = search needs
+
+shared-slice-read-kind : tie.Need-shared-slice-read-kind
+shared-slice-read-kind c = search needs
+
+returns : tie.Need-returns
+unfolding flagAt
+returns c = simp (eq-eqb _ _ (c .if1 .taken))
+
+returns-2 : tie.Need-returns-2
+unfolding flagAt
+returns-2 c = simp (ne-eqb _ _ (c .before .if1 .left), eq-eqb _ _ (c .if2 .taken))
+
+returns-3 : tie.Need-returns-3
+unfolding flagAt
+returns-3 c = simp (ne-eqb _ _ (c .before .if1 .left), ne-eqb _ _ (c .if2 .left))
+
+pub flag-at-spec : {M : Type 1} → statement M
+flag-at-spec = tie.close (tie.spec mul-kind shared-slice-read-kind returns returns-2 returns-3)

@@ -1,0 +1,51 @@
+-- The groups of numbers are stored one behind the other.
+use denote.Ref.{now}
+use Rattle.numbers.proofs.Put.{all-stored, no-room}
+use borrow.Author.Needs.{needs}
+use Rattle.numbers.proofs.told.put_record.Statement.{statement}
+use Rattle.numbers.proofs.told.put_record.Tie as tie
+
+returns : tie.Need-returns
+returns c =
+    let a = c .before .before .args in
+    no-room (a .r) (now (a .out)) (c .if1 .taken)
+
+put-time-and-date-requires : tie.Need-put-time-and-date-requires
+put-time-and-date-requires c κs = search needs
+
+put-fraction-and-channel-requires : tie.Need-put-fraction-and-channel-requires
+put-fraction-and-channel-requires c κs = search needs
+
+put-flags-requires : tie.Need-put-flags-requires
+put-flags-requires c κs = search needs
+
+put-offset-requires : tie.Need-put-offset-requires
+put-offset-requires c κs = search needs
+
+put-position-requires : tie.Need-put-position-requires
+put-position-requires c κs = search needs
+
+put-pending-requires : tie.Need-put-pending-requires
+put-pending-requires c κs = search needs
+
+same-length : tie.Need-same-length
+same-length c = search needs
+
+returns-2 : tie.Need-returns-2
+returns-2 c =
+    let a = c .before .before .before .before .before .before .before .before .before .before .before .before .before .before .before .before .before .before .before .before .before .before .before .before .before .before .args in
+    all-stored (a .r) (now (a .out)) (c .before .before .before .before .before .before .before .before .before .before .before .before .before .before .before .before .before .before .before .before .before .before .before .before .if1 .left) (c .before .before .before .before .before .before .before .before .before .before .before .before .before .before .before .before .before .before .before .before .before .before .put-time-and-date .ensures) (c .before .before .before .before .before .before .before .before .before .before .before .before .before .before .before .before .before .before .put-fraction-and-channel .ensures) (c .before .before .before .before .before .before .before .before .before .before .before .before .before .before .put-flags .ensures) (c .before .before .before .before .before .before .before .before .before .before .put-offset .ensures) (c .before .before .before .before .before .before .put-position .ensures) (c .before .before .put-pending .ensures)
+
+pub put-record-spec : {M : Type 1} → statement M
+put-record-spec =
+    tie.close
+    (tie.spec
+    returns
+    put-time-and-date-requires
+    put-fraction-and-channel-requires
+    put-flags-requires
+    put-offset-requires
+    put-position-requires
+    put-pending-requires
+    same-length
+    returns-2)
