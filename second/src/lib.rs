@@ -12,6 +12,7 @@ pub mod forms;
 pub mod frame;
 pub mod generate;
 pub mod listener;
+pub mod program;
 pub mod protocol;
 pub mod record;
 pub mod search;

@@ -79,3 +79,8 @@ fn the_manuals() {
 fn strings_from_outside() {
     assert_eq!(check("outside.txt"), 21);
 }
+
+#[test]
+fn frames() {
+    assert_eq!(check("frames.txt"), 40);
+}

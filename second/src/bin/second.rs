@@ -2,6 +2,7 @@
 //!
 //!     second                          answers each line of standard input with one line
 //!     second generate SEED COUNT      prints COUNT requests, always the same for a seed
+//!     second heard                    prints what the program `heard` prints for standard input
 //!
 //! F is a form, a decimal number 0..4294967295. HEX is bytes as pairs of hex digits (small ones in
 //! answers); no bytes at all are `-`. A record in an answer is its block (form 9) in hex. N is a
@@ -42,6 +43,7 @@ use std::io::{self, BufRead, BufWriter, Write};
 use std::process::ExitCode;
 
 use second::generate::Requests;
+use second::program;
 use second::protocol::answer;
 
 fn answer_all() -> io::Result<()> {
@@ -60,6 +62,12 @@ fn generate(seed: u64, count: usize) -> io::Result<()> {
     out.flush()
 }
 
+fn heard() -> io::Result<()> {
+    let mut out = BufWriter::new(io::stdout().lock());
+    program::run(io::stdin().lock(), &mut out)?;
+    out.flush()
+}
+
 fn main() -> ExitCode {
     let words: Vec<String> = env::args().skip(1).collect();
     let words: Vec<&str> = words.iter().map(String::as_str).collect();
@@ -69,7 +77,10 @@ fn main() -> ExitCode {
             (Ok(seed), Ok(count)) => generate(seed, count),
             _ => Err(io::Error::other("SEED and COUNT are numbers")),
         },
-        _ => Err(io::Error::other("use: second [generate SEED COUNT]")),
+        ["heard"] => heard(),
+        _ => Err(io::Error::other(
+            "use: second [generate SEED COUNT | heard]",
+        )),
     };
     match done {
         Ok(()) => ExitCode::SUCCESS,
