@@ -13,12 +13,6 @@ pick-either : (a b : Bool) (x y : ℕ) → pick a x (pick b x y) ≡ pick (a || 
 pick-either true b x y = refl
 pick-either false b x y = refl
 
-add-is-leap : tie.Need-add-is-leap
-add-is-leap c = search needs
-
-is-leap-requires : tie.Need-is-leap-requires
-is-leap-requires c κs = search needs
-
 returns : tie.Need-returns
 unfolding monthDays
 returns c = simp (eq-eqb _ 2 (c .before .before .if1 .taken), ← c .before .is-leap .ensures, c .if2 .taken)
@@ -37,4 +31,4 @@ returns-4 c = simp (ne-eqb _ 2 (c .before .if1 .left), pick-either, c .if3 .left
 
 pub month-days-spec : {M : Type 1} → statement M
 month-days-spec =
-    tie.close (tie.spec add-is-leap is-leap-requires returns returns-2 returns-3 returns-4)
+    tie.close (tie.spec (λ c. search needs) (λ c κs. search needs) returns returns-2 returns-3 returns-4)

@@ -5,39 +5,6 @@ use borrow.Author.Needs.{needs}
 use Rattle.capture.proofs.has_shape.Statement.{statement}
 use Rattle.capture.proofs.has_shape.Tie as tie
 
-slice-aggregate-text-at : tie.Need-slice-aggregate-text-at
-slice-aggregate-text-at c = search needs
-
-text-at-requires : tie.Need-text-at-requires
-text-at-requires c κs = search needs
-
-digits-at-requires : tie.Need-digits-at-requires
-digits-at-requires c κs = search needs
-
-is-at-requires : tie.Need-is-at-requires
-is-at-requires c κs = search needs
-
-pairs-at-requires : tie.Need-pairs-at-requires
-pairs-at-requires c κs = search needs
-
-is-at-requires-2 : tie.Need-is-at-requires-2
-is-at-requires-2 c κs = search needs
-
-pairs-at-requires-2 : tie.Need-pairs-at-requires-2
-pairs-at-requires-2 c κs = search needs
-
-is-at-requires-3 : tie.Need-is-at-requires-3
-is-at-requires-3 c κs = search needs
-
-digits-at-requires-2 : tie.Need-digits-at-requires-2
-digits-at-requires-2 c κs = search needs
-
-slice-aggregate-text-at-2 : tie.Need-slice-aggregate-text-at-2
-slice-aggregate-text-at-2 c = search needs
-
-text-at-requires-2 : tie.Need-text-at-requires-2
-text-at-requires-2 c κs = search needs
-
 returns : tie.Need-returns
 unfolding shape
 returns c = simp (c .before .before .before .before .before .before .before .before .before .text-at .ensures, c .before .before .before .before .before .before .before .before .digits-at .ensures, c .before .before .before .before .before .before .before .is-at .ensures, c .before .before .before .before .before .before .pairs-at .ensures, c .before .before .before .before .before .is-at2 .ensures, c .before .before .before .before .pairs-at2 .ensures, c .before .before .before .is-at3 .ensures, c .before .before .digits-at2 .ensures, c .text-at2 .ensures, and-assoc, and-true)
@@ -46,15 +13,15 @@ pub has-shape-spec : {M : Type 1} → statement M
 has-shape-spec =
     tie.close
     (tie.spec
-    slice-aggregate-text-at
-    text-at-requires
-    digits-at-requires
-    is-at-requires
-    pairs-at-requires
-    is-at-requires-2
-    pairs-at-requires-2
-    is-at-requires-3
-    digits-at-requires-2
-    slice-aggregate-text-at-2
-    text-at-requires-2
+    (λ c. search needs)
+    (λ c κs. search needs)
+    (λ c κs. search needs)
+    (λ c κs. search needs)
+    (λ c κs. search needs)
+    (λ c κs. search needs)
+    (λ c κs. search needs)
+    (λ c κs. search needs)
+    (λ c κs. search needs)
+    (λ c. search needs)
+    (λ c κs. search needs)
     returns)

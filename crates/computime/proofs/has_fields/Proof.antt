@@ -5,11 +5,8 @@ use borrow.Author.Needs.{needs}
 use Rattle.computime.proofs.has_fields.Statement.{statement}
 use Rattle.computime.proofs.has_fields.Tie as tie
 
-has-full-date-requires : tie.Need-has-full-date-requires
-has-full-date-requires c κs = search needs
-
 returns : tie.Need-returns
 returns c = c .has-full-date .ensures ∙ sym (needs-of (c .before .args .r))
 
 pub has-fields-spec : {M : Type 1} → statement M
-has-fields-spec = tie.close (tie.spec has-full-date-requires returns)
+has-fields-spec = tie.close (tie.spec (λ c κs. search needs) returns)

@@ -9,18 +9,6 @@ use borrow.Author.Needs.{needs}
 use Rattle.fields.proofs.latitude_of.Statement.{statement}
 use Rattle.fields.proofs.latitude_of.Tie as tie
 
-enum-told : tie.Need-enum-told
-enum-told c = search needs
-
-enum-known-position : tie.Need-enum-known-position
-enum-known-position c = search needs
-
-magnitude-requires : tie.Need-magnitude-requires
-magnitude-requires c κs = search needs
-
-returns : tie.Need-returns
-returns c = search needs
-
 returns-2 : tie.Need-returns-2
 returns-2 c =
     let fits : SFits w32 (c .before .before .position .given .0 .0) = search needs in
@@ -28,4 +16,4 @@ returns-2 c =
 
 pub latitude-of-spec : {M : Type 1} → statement M
 latitude-of-spec =
-    tie.close (tie.spec enum-told enum-known-position magnitude-requires returns returns-2)
+    tie.close (tie.spec (λ c. search needs) (λ c. search needs) (λ c κs. search needs) (λ c. search needs) returns-2)

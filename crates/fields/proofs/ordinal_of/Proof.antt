@@ -7,27 +7,6 @@ use borrow.Author.Needs.{needs}
 use Rattle.fields.proofs.ordinal_of.Statement.{statement}
 use Rattle.fields.proofs.ordinal_of.Tie as tie
 
-enum-told : tie.Need-enum-told
-enum-told c = search needs
-
-enum-known-date : tie.Need-enum-known-date
-enum-known-date c = search needs
-
-day-of-year-requires : tie.Need-day-of-year-requires
-day-of-year-requires c κs = search needs
-
-enum-known-n : tie.Need-enum-known-n
-enum-known-n c = search needs
-
-enum-told-2 : tie.Need-enum-told-2
-enum-told-2 c = search needs
-
-enum-known-date-2 : tie.Need-enum-known-date-2
-enum-known-date-2 c = search needs
-
-returns : tie.Need-returns
-returns c = search needs
-
 returns-2 : tie.Need-returns-2
 unfolding dateInRange
 returns-2 c =
@@ -41,20 +20,17 @@ returns-3 c =
     let d = c .before .before .before .before .date .given .1 in
     none-of _ _ (sym (ap dateInRange d) ∙ c .before .before .before .before .before .before .pre) (sym (c .before .before .day-of-year .ensures) ∙ c .enum-told2 .given .1)
 
-returns-4 : tie.Need-returns-4
-returns-4 c = search needs
-
 pub ordinal-of-spec : {M : Type 1} → statement M
 ordinal-of-spec =
     tie.close
     (tie.spec
-    enum-told
-    enum-known-date
-    day-of-year-requires
-    enum-known-n
-    enum-told-2
-    enum-known-date-2
-    returns
+    (λ c. search needs)
+    (λ c. search needs)
+    (λ c κs. search needs)
+    (λ c. search needs)
+    (λ c. search needs)
+    (λ c. search needs)
+    (λ c. search needs)
     returns-2
     returns-3
-    returns-4)
+    (λ c. search needs))

@@ -5,24 +5,6 @@ use borrow.Author.Needs.{needs}
 use Rattle.frame.proofs.has_fields.Statement.{statement}
 use Rattle.frame.proofs.has_fields.Tie as tie
 
-has-full-date-requires : tie.Need-has-full-date-requires
-has-full-date-requires c κs = search needs
-
-has-flag-requires : tie.Need-has-flag-requires
-has-flag-requires c κs = search needs
-
-has-flag-requires-2 : tie.Need-has-flag-requires-2
-has-flag-requires-2 c κs = search needs
-
-has-offset-requires : tie.Need-has-offset-requires
-has-offset-requires c κs = search needs
-
-has-flag-requires-3 : tie.Need-has-flag-requires-3
-has-flag-requires-3 c κs = search needs
-
-has-flag-requires-4 : tie.Need-has-flag-requires-4
-has-flag-requires-4 c κs = search needs
-
 returns : tie.Need-returns
 returns c =
     let b = c .before .before .before in
@@ -33,10 +15,10 @@ pub has-fields-spec : {M : Type 1} → statement M
 has-fields-spec =
     tie.close
     (tie.spec
-    has-full-date-requires
-    has-flag-requires
-    has-flag-requires-2
-    has-offset-requires
-    has-flag-requires-3
-    has-flag-requires-4
+    (λ c κs. search needs)
+    (λ c κs. search needs)
+    (λ c κs. search needs)
+    (λ c κs. search needs)
+    (λ c κs. search needs)
+    (λ c κs. search needs)
     returns)

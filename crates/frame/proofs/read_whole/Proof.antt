@@ -15,18 +15,6 @@ use Rattle.frame.proofs.read_whole.Tie as tie
 returns : tie.Need-returns
 returns c = sym (wrong-length frame _ (c .if1 .taken))
 
-has-shape-requires : tie.Need-has-shape-requires
-has-shape-requires c κs = search needs
-
-parity-holds-requires : tie.Need-parity-holds-requires
-parity-holds-requires c κs = search needs
-
-number-at-requires : tie.Need-number-at-requires
-number-at-requires c κs = search needs
-
-judged-requires : tie.Need-judged-requires
-judged-requires c κs = search needs
-
 returns-2 : tie.Need-returns-2
 returns-2 c =
     let b = c .before .before .before .before .before in
@@ -50,10 +38,10 @@ read-whole-spec =
     tie.close
     (tie.spec
     returns
-    has-shape-requires
-    parity-holds-requires
-    number-at-requires
-    judged-requires
+    (λ c κs. search needs)
+    (λ c κs. search needs)
+    (λ c κs. search needs)
+    (λ c κs. search needs)
     returns-2
     returns-3
     returns-4)

@@ -10,15 +10,6 @@ use borrow.Author.Needs.{needs}
 use Rattle.frame.proofs.write.Statement.{statement}
 use Rattle.frame.proofs.write.Tie as tie
 
-is-good-requires : tie.Need-is-good-requires
-is-good-requires c κs = search needs
-
-has-fields-requires : tie.Need-has-fields-requires
-has-fields-requires c κs = search needs
-
-half-hour-of-requires : tie.Need-half-hour-of-requires
-half-hour-of-requires c κs = search needs
-
 returns : tie.Need-returns
 returns c =
     let a = c .before .before .before .before .before .before .before .before .args in
@@ -27,18 +18,12 @@ returns c =
     let w = expressible (a .r) _ (c .before .before .half-hour-of .ensures) (c .before .if3 .taken) in
     short-buffer frame (a .r) (now (a .out)) g h w (c .if4 .taken)
 
-sign-of-requires : tie.Need-sign-of-requires
-sign-of-requires c κs = search needs
-
 store-requires : tie.Need-store-requires
 store-requires c κs =
     let a = c .before .before .before .before .before .before .before .before .before .before .args in
     let g = sym (c .before .before .before .before .before .before .before .before .is-good .ensures) ∙ c .before .before .before .before .before .before .before .if1 .taken in
     let e = c .before .before .before .before .half-hour-of .ensures in
     (good-range (a .r) g, (omega (arith, e), omega arith))
-
-same-length : tie.Need-same-length
-same-length c = search needs
 
 returns-2 : tie.Need-returns-2
 returns-2 c =
@@ -70,13 +55,13 @@ pub write-spec : {M : Type 1} → statement M
 write-spec =
     tie.close
     (tie.spec
-    is-good-requires
-    has-fields-requires
-    half-hour-of-requires
+    (λ c κs. search needs)
+    (λ c κs. search needs)
+    (λ c κs. search needs)
     returns
-    sign-of-requires
+    (λ c κs. search needs)
     store-requires
-    same-length
+    (λ c. search needs)
     returns-2
     returns-3
     returns-4

@@ -10,26 +10,11 @@ use Rattle.scan.proofs.Answered.{not-refused, told-count, told-few, told-inside
 use Rattle.heard.proofs.print.Statement.{statement}
 use Rattle.heard.proofs.print.Tie as tie
 
-tell-requires : tie.Need-tell-requires
-tell-requires c κs = search needs
-
-enum-known-telegrams : tie.Need-enum-known-telegrams
-enum-known-telegrams c = search needs
-
 slice-reshare-prefix-write-all : tie.Need-slice-reshare-prefix-write-all
 slice-reshare-prefix-write-all c = told-inside (c .before .before .before .before .before .before .before .before .before .args .form) _ _ _ _ (c .before .before .before .before .before .tell .ensures) _ _ (c .before .telegrams .given .1)
 
 slice-aggregate-write-all : tie.Need-slice-aggregate-write-all
 slice-aggregate-write-all c = sym (length-take-le _ _ (slice-reshare-prefix-write-all (c .before)))
-
-write-all-requires : tie.Need-write-all-requires
-write-all-requires c κs = search needs
-
-enum-told : tie.Need-enum-told
-enum-told c = search needs
-
-same-length : tie.Need-same-length
-same-length c = search needs
 
 returns : tie.Need-returns
 returns c =
@@ -41,9 +26,6 @@ returns c =
       omega (arith, told-few (s .args .form) _ _ _ _ told _ _ e (s .args .carried) m (s .pre .0) (omega arith)),
     )
 
-same-length-2 : tie.Need-same-length-2
-same-length-2 c = search needs
-
 returns-2 : tie.Need-returns-2
 returns-2 c =
     let s = c .before .before .before .before .before .before .before .before in
@@ -53,13 +35,13 @@ pub print-spec : {M : Type 1} → statement M
 print-spec =
     tie.close
     (tie.spec
-    tell-requires
-    enum-known-telegrams
+    (λ c κs. search needs)
+    (λ c. search needs)
     slice-reshare-prefix-write-all
     slice-aggregate-write-all
-    write-all-requires
-    enum-told
-    same-length
+    (λ c κs. search needs)
+    (λ c. search needs)
+    (λ c. search needs)
     returns
-    same-length-2
+    (λ c. search needs)
     returns-2)

@@ -9,35 +9,14 @@ use Rattle.listener.proofs.Windows.{other-end, other-start}
 use Rattle.listener.proofs.completed.Statement.{statement}
 use Rattle.listener.proofs.completed.Tie as tie
 
-end-of-requires : tie.Need-end-of-requires
-end-of-requires c κs = search needs
-
 returns : tie.Need-returns
 returns c =
     let a = c .before .before .args in
     let p = c .before .before .pre in
     other-end (a .form) (a .t2) (a .at) (a .n) (p .0) (search needs) (omega arith) (p .1 .1 .1 .0) (eqb (a .kept + 1) (a .n)) (a .b) (p .1 .1 .1 .1) (λ e. c .if1 .taken (e ∙ sym (c .before .end-of .ensures)))
 
-add-if2 : tie.Need-add-if2
-add-if2 c = search needs
-
 returns-2 : tie.Need-returns-2
 returns-2 c = rw (ne-eqb _ _ (c .if2 .taken))
-
-sub-wrap : tie.Need-sub-wrap
-sub-wrap c = search needs
-
-add-wrap : tie.Need-add-wrap
-add-wrap c = search needs
-
-wrap-requires : tie.Need-wrap-requires
-wrap-requires c κs = search needs
-
-array-read-if3 : tie.Need-array-read-if3
-array-read-if3 c = search needs
-
-start-of-requires : tie.Need-start-of-requires
-start-of-requires c κs = search needs
 
 returns-3 : tie.Need-returns-3
 returns-3 c =
@@ -46,9 +25,6 @@ returns-3 c =
     other-start (a .form) (a .t2) (a .at) (a .n) (p .0) (search needs) (omega arith) (p .1 .1 .1 .0) (eqb (a .kept + 1) (a .n))
     (λ e. c .if3 .taken (rw (c .before .before .wrap .ensures .0) (e ∙ sym (c .before .start-of .ensures))))
 
-newest-requires : tie.Need-newest-requires
-newest-requires c κs = search needs
-
 returns-4 : tie.Need-returns-4
 returns-4 c = rw (eq-eqb _ _ (c .before .before .before .before .if2 .left)) (c .newest .ensures)
 
@@ -56,15 +32,15 @@ pub completed-spec : {M : Type 1} → statement M
 completed-spec =
     tie.close
     (tie.spec
-    end-of-requires
+    (λ c κs. search needs)
     returns
-    add-if2
+    (λ c. search needs)
     returns-2
-    sub-wrap
-    add-wrap
-    wrap-requires
-    array-read-if3
-    start-of-requires
+    (λ c. search needs)
+    (λ c. search needs)
+    (λ c κs. search needs)
+    (λ c. search needs)
+    (λ c κs. search needs)
     returns-3
-    newest-requires
+    (λ c κs. search needs)
     returns-4)

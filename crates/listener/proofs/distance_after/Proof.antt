@@ -3,24 +3,6 @@ use borrow.Author.Needs.{needs}
 use Rattle.listener.proofs.distance_after.Statement.{statement}
 use Rattle.listener.proofs.distance_after.Tie as tie
 
-enum-told : tie.Need-enum-told
-enum-told c = search needs
-
-enum-told-2 : tie.Need-enum-told-2
-enum-told-2 c = search needs
-
-one-more-requires : tie.Need-one-more-requires
-one-more-requires c κs = search needs
-
-enum-told-3 : tie.Need-enum-told-3
-enum-told-3 c = search needs
-
-one-more-requires-2 : tie.Need-one-more-requires-2
-one-more-requires-2 c κs = search needs
-
-returns : tie.Need-returns
-returns c = search needs
-
 returns-2 : tie.Need-returns-2
 returns-2 c = rw (c .before .enum-told2 .given .1) (c .one-more .ensures)
 
@@ -31,11 +13,11 @@ pub distance-after-spec : {M : Type 1} → statement M
 distance-after-spec =
     tie.close
     (tie.spec
-    enum-told
-    enum-told-2
-    one-more-requires
-    enum-told-3
-    one-more-requires-2
-    returns
+    (λ c. search needs)
+    (λ c. search needs)
+    (λ c κs. search needs)
+    (λ c. search needs)
+    (λ c κs. search needs)
+    (λ c. search needs)
     returns-2
     returns-3)

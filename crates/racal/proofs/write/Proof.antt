@@ -10,24 +10,12 @@ use borrow.Author.Needs.{needs}
 use Rattle.racal.proofs.write.Statement.{statement}
 use Rattle.racal.proofs.write.Tie as tie
 
-is-good-requires : tie.Need-is-good-requires
-is-good-requires c κs = search needs
-
-has-fields-requires : tie.Need-has-fields-requires
-has-fields-requires c κs = search needs
-
 returns : tie.Need-returns
 returns c =
     let a = c .before .before .before .before .before .before .args in
     let g = sym (c .before .before .before .before .is-good .ensures) ∙ c .before .before .before .if1 .taken in
     let h = sym (c .before .before .has-fields .ensures) ∙ c .before .if2 .taken in
     short-buffer racal (a .r) (now (a .out)) g h (worded-of (a .r)) (c .if3 .taken)
-
-store-requires : tie.Need-store-requires
-store-requires c κs = search needs
-
-same-length : tie.Need-same-length
-same-length c = search needs
 
 returns-2 : tie.Need-returns-2
 unfolding stores
@@ -52,11 +40,11 @@ pub write-spec : {M : Type 1} → statement M
 write-spec =
     tie.close
     (tie.spec
-    is-good-requires
-    has-fields-requires
+    (λ c κs. search needs)
+    (λ c κs. search needs)
     returns
-    store-requires
-    same-length
+    (λ c κs. search needs)
+    (λ c. search needs)
     returns-2
     returns-3
     returns-4)

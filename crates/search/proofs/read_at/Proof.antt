@@ -9,41 +9,17 @@ use Rattle.search.proofs.Places.{other-end, other-start}
 use Rattle.search.proofs.read_at.Statement.{statement}
 use Rattle.search.proofs.read_at.Tie as tie
 
-shared-slice-read-if1 : tie.Need-shared-slice-read-if1
-shared-slice-read-if1 c = search needs
-
 returns : tie.Need-returns
 returns c =
     let a = c .before .before .before .args in
     let p = c .before .before .before .pre in
     other-start (a .form) (a .n) (now (a .s)) (a .p) (p .1 .1 .1 .1) (p .1 .1 .1 .0) (λ e. c .if1 .taken (e ∙ sym (p .1 .0)))
 
-add-end : tie.Need-add-end
-add-end c = search needs
-
-sub-if2 : tie.Need-sub-if2
-sub-if2 c = search needs
-
-shared-slice-read-if2 : tie.Need-shared-slice-read-if2
-shared-slice-read-if2 c = search needs
-
 returns-2 : tie.Need-returns-2
 returns-2 c =
     let a = c .before .before .before .before .before .args in
     let p = c .before .before .before .before .before .pre in
     other-end (a .form) (a .n) (now (a .s)) (a .p) (p .1 .1 .1 .1) (p .1 .1 .1 .0) (λ e. c .if2 .taken (e ∙ sym (p .1 .1 .0)))
-
-sub-read : tie.Need-sub-read
-sub-read c = search needs
-
-part-read-start : tie.Need-part-read-start
-part-read-start c = search needs
-
-part-read-end : tie.Need-part-read-end
-part-read-end c = search needs
-
-read-requires : tie.Need-read-requires
-read-requires c κs = search needs
 
 returns-3 : tie.Need-returns-3
 unfolding validOf
@@ -56,14 +32,14 @@ pub read-at-spec : {M : Type 1} → statement M
 read-at-spec =
     tie.close
     (tie.spec
-    shared-slice-read-if1
+    (λ c. search needs)
     returns
-    add-end
-    sub-if2
-    shared-slice-read-if2
+    (λ c. search needs)
+    (λ c. search needs)
+    (λ c. search needs)
     returns-2
-    sub-read
-    part-read-start
-    part-read-end
-    read-requires
+    (λ c. search needs)
+    (λ c. search needs)
+    (λ c. search needs)
+    (λ c κs. search needs)
     returns-3)

@@ -16,9 +16,6 @@ Inv-loop form s start n end first last p₀ p = firstFrom n (validOf form) s sta
 abbrev μ-loop : tie.MeasureT-loop
 μ-loop form s start n end first last p₀ p = end + 1 - p
 
-length-of-requires : tie.Need-length-of-requires Inv-loop μ-loop
-length-of-requires c κs = search needs
-
 returns : tie.Need-returns Inv-loop μ-loop
 returns c =
     let a = c .before .before .before .args in
@@ -29,33 +26,12 @@ returns-2 c =
     let a = c .before .before .before .before .args in
     no-more (a .form) _ (c .before .before .length-of .ensures) (now (a .s)) (a .start) (c .before .if1 .left) (a .start) refl (omega arith)
 
-sub-end : tie.Need-sub-end Inv-loop μ-loop
-sub-end c = search needs
-
-start-of-requires : tie.Need-start-of-requires Inv-loop μ-loop
-start-of-requires c κs = search needs
-
-end-of-requires : tie.Need-end-of-requires Inv-loop μ-loop
-end-of-requires c κs = search needs
-
-loop-holds : tie.Need-loop-holds Inv-loop μ-loop
-loop-holds c = search needs
-
-read-at-requires : tie.Need-read-at-requires Inv-loop μ-loop
-read-at-requires c κs = search needs
-
-enum-known-reading : tie.Need-enum-known-reading Inv-loop μ-loop
-enum-known-reading c = search needs
-
 returns-3 : tie.Need-returns-3 Inv-loop μ-loop
 returns-3 c =
     let a = c .before .before .before .before .before .before .before .before .before .before .before .before .args in
     let q = c .before .before .before .before .before .loop in
     here (a .form) _ (c .before .before .before .before .before .before .before .before .before .before .length-of .ensures) (now (a .s)) (a .start) (c .before .before .before .before .before .before .before .before .before .if1 .left) (q .p) (q .inv) (omega arith)
     _ (c .before .before .before .read-at .ensures) _ (c .before .reading .given .1)
-
-enum-told : tie.Need-enum-told Inv-loop μ-loop
-enum-told c = search needs
 
 add-p : tie.Need-add-p Inv-loop μ-loop
 add-p c = omega arith
@@ -82,17 +58,17 @@ search-spec =
     (tie.spec
     Inv-loop
     μ-loop
-    length-of-requires
+    (λ c κs. search needs)
     returns
     returns-2
-    sub-end
-    start-of-requires
-    end-of-requires
-    loop-holds
-    read-at-requires
-    enum-known-reading
+    (λ c. search needs)
+    (λ c κs. search needs)
+    (λ c κs. search needs)
+    (λ c. search needs)
+    (λ c κs. search needs)
+    (λ c. search needs)
     returns-3
-    enum-told
+    (λ c. search needs)
     add-p
     loop-less
     loop-again

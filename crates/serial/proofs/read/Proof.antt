@@ -8,27 +8,6 @@ use Rattle.serial.proofs.Numbers.{no-form}
 use Rattle.serial.proofs.read.Statement.{statement}
 use Rattle.serial.proofs.read.Tie as tie
 
-read-requires : tie.Need-read-requires
-read-requires c κs = search needs
-
-read-requires-2 : tie.Need-read-requires-2
-read-requires-2 c κs = search needs
-
-read-requires-3 : tie.Need-read-requires-3
-read-requires-3 c κs = search needs
-
-read-requires-4 : tie.Need-read-requires-4
-read-requires-4 c κs = search needs
-
-read-requires-5 : tie.Need-read-requires-5
-read-requires-5 c κs = search needs
-
-read-requires-6 : tie.Need-read-requires-6
-read-requires-6 c κs = search needs
-
-read-requires-7 : tie.Need-read-requires-7
-read-requires-7 c κs = search needs
-
 returns : tie.Need-returns
 unfolding readAs layoutOf
 returns c =
@@ -74,13 +53,13 @@ pub read-spec : {M : Type 1} → statement M
 read-spec =
     tie.close
     (tie.spec
-    read-requires
-    read-requires-2
-    read-requires-3
-    read-requires-4
-    read-requires-5
-    read-requires-6
-    read-requires-7
+    (λ c κs. search needs)
+    (λ c κs. search needs)
+    (λ c κs. search needs)
+    (λ c κs. search needs)
+    (λ c κs. search needs)
+    (λ c κs. search needs)
+    (λ c κs. search needs)
     returns
     returns-2
     returns-3

@@ -8,38 +8,11 @@ use Rattle.serial.proofs.Numbers.{no-form, wrote-nothing, wrote-sized}
 use Rattle.serial.proofs.write.Statement.{statement}
 use Rattle.serial.proofs.write.Tie as tie
 
-write-requires : tie.Need-write-requires
-write-requires c κs = search needs
-
-write-requires-2 : tie.Need-write-requires-2
-write-requires-2 c κs = search needs
-
-write-requires-3 : tie.Need-write-requires-3
-write-requires-3 c κs = search needs
-
-write-requires-4 : tie.Need-write-requires-4
-write-requires-4 c κs = search needs
-
-write-requires-5 : tie.Need-write-requires-5
-write-requires-5 c κs = search needs
-
-write-requires-6 : tie.Need-write-requires-6
-write-requires-6 c κs = search needs
-
-write-requires-7 : tie.Need-write-requires-7
-write-requires-7 c κs = search needs
-
-same-length : tie.Need-same-length
-same-length c = search needs
-
 returns : tie.Need-returns
 unfolding layoutOf
 returns c =
     let a = c .before .before .before .before .before .before .args in
     wrote-sized (layoutOf serialForms (a .form)) (a .r) (now (a .out)) standard (ap (layoutOf serialForms) (c .before .before .before .before .match .keys1)) _ _ (c .before .before .write .ensures)
-
-same-length-2 : tie.Need-same-length-2
-same-length-2 c = search needs
 
 returns-2 : tie.Need-returns-2
 unfolding layoutOf
@@ -47,17 +20,11 @@ returns-2 c =
     let a = c .before .before .before .before .before .before .args in
     wrote-sized (layoutOf serialForms (a .form)) (a .r) (now (a .out)) capture (ap (layoutOf serialForms) (c .before .before .before .before .match .keys2)) _ _ (c .before .before .write2 .ensures)
 
-same-length-3 : tie.Need-same-length-3
-same-length-3 c = search needs
-
 returns-3 : tie.Need-returns-3
 unfolding layoutOf
 returns-3 c =
     let a = c .before .before .before .before .before .before .args in
     wrote-sized (layoutOf serialForms (a .form)) (a .r) (now (a .out)) erlangen (ap (layoutOf serialForms) (c .before .before .before .before .match .keys3)) _ _ (c .before .before .write3 .ensures)
-
-same-length-4 : tie.Need-same-length-4
-same-length-4 c = search needs
 
 returns-4 : tie.Need-returns-4
 unfolding layoutOf
@@ -65,26 +32,17 @@ returns-4 c =
     let a = c .before .before .before .before .before .before .args in
     wrote-sized (layoutOf serialForms (a .form)) (a .r) (now (a .out)) spa (ap (layoutOf serialForms) (c .before .before .before .before .match .keys4)) _ _ (c .before .before .write4 .ensures)
 
-same-length-5 : tie.Need-same-length-5
-same-length-5 c = search needs
-
 returns-5 : tie.Need-returns-5
 unfolding layoutOf
 returns-5 c =
     let a = c .before .before .before .before .before .before .args in
     wrote-sized (layoutOf serialForms (a .form)) (a .r) (now (a .out)) racal (ap (layoutOf serialForms) (c .before .before .before .before .match .keys5)) _ _ (c .before .before .write5 .ensures)
 
-same-length-6 : tie.Need-same-length-6
-same-length-6 c = search needs
-
 returns-6 : tie.Need-returns-6
 unfolding layoutOf
 returns-6 c =
     let a = c .before .before .before .before .before .before .args in
     wrote-sized (layoutOf serialForms (a .form)) (a .r) (now (a .out)) sysplex (ap (layoutOf serialForms) (c .before .before .before .before .match .keys6)) _ _ (c .before .before .write6 .ensures)
-
-same-length-7 : tie.Need-same-length-7
-same-length-7 c = search needs
 
 returns-7 : tie.Need-returns-7
 unfolding layoutOf
@@ -101,25 +59,25 @@ pub write-spec : {M : Type 1} → statement M
 write-spec =
     tie.close
     (tie.spec
-    write-requires
-    write-requires-2
-    write-requires-3
-    write-requires-4
-    write-requires-5
-    write-requires-6
-    write-requires-7
-    same-length
+    (λ c κs. search needs)
+    (λ c κs. search needs)
+    (λ c κs. search needs)
+    (λ c κs. search needs)
+    (λ c κs. search needs)
+    (λ c κs. search needs)
+    (λ c κs. search needs)
+    (λ c. search needs)
     returns
-    same-length-2
+    (λ c. search needs)
     returns-2
-    same-length-3
+    (λ c. search needs)
     returns-3
-    same-length-4
+    (λ c. search needs)
     returns-4
-    same-length-5
+    (λ c. search needs)
     returns-5
-    same-length-6
+    (λ c. search needs)
     returns-6
-    same-length-7
+    (λ c. search needs)
     returns-7
     returns-8)

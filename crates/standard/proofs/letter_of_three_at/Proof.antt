@@ -6,15 +6,6 @@ use borrow.Author.Needs.{needs}
 use Rattle.standard.proofs.letter_of_three_at.Statement.{statement}
 use Rattle.standard.proofs.letter_of_three_at.Tie as tie
 
-shared-slice-read-result : tie.Need-shared-slice-read-result
-shared-slice-read-result c = search needs
-
-shared-slice-read-result-2 : tie.Need-shared-slice-read-result-2
-shared-slice-read-result-2 c = search needs
-
-shared-slice-read-result-3 : tie.Need-shared-slice-read-result-3
-shared-slice-read-result-3 c = search needs
-
 returns : tie.Need-returns
 returns c =
     let a = c .before .before .before .args in
@@ -24,7 +15,7 @@ pub letter-of-three-at-spec : {M : Type 1} → statement M
 letter-of-three-at-spec =
     tie.close
     (tie.spec
-    shared-slice-read-result
-    shared-slice-read-result-2
-    shared-slice-read-result-3
+    (λ c. search needs)
+    (λ c. search needs)
+    (λ c. search needs)
     returns)

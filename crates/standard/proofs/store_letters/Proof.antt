@@ -6,18 +6,6 @@ use borrow.Author.Needs.{needs}
 use Rattle.standard.proofs.store_letters.Statement.{statement}
 use Rattle.standard.proofs.store_letters.Tie as tie
 
-is-yes-requires : tie.Need-is-yes-requires
-is-yes-requires c κs = search needs
-
-put-letter-requires : tie.Need-put-letter-requires
-put-letter-requires c κs = search needs
-
-is-yes-requires-2 : tie.Need-is-yes-requires-2
-is-yes-requires-2 c κs = search needs
-
-put-letter-requires-2 : tie.Need-put-letter-requires-2
-put-letter-requires-2 c κs = search needs
-
 put-shared-requires : tie.Need-put-shared-requires
 unfolding zoneAgrees
 put-shared-requires c κs = (search needs, c .before .before .before .before .before .before .before .before .before .before .before .before .pre .1)
@@ -25,12 +13,6 @@ put-shared-requires c κs = (search needs, c .before .before .before .before .be
 put-shared-requires-2 : tie.Need-put-shared-requires-2
 unfolding noticeAgrees
 put-shared-requires-2 c κs = (search needs, c .before .before .before .before .before .before .before .before .before .before .before .before .before .before .before .before .pre .2)
-
-put-byte-requires : tie.Need-put-byte-requires
-put-byte-requires c κs = search needs
-
-same-length : tie.Need-same-length
-same-length c = search needs
 
 returns : tie.Need-returns
 unfolding stores
@@ -40,12 +22,12 @@ pub store-letters-spec : {M : Type 1} → statement M
 store-letters-spec =
     tie.close
     (tie.spec
-    is-yes-requires
-    put-letter-requires
-    is-yes-requires-2
-    put-letter-requires-2
+    (λ c κs. search needs)
+    (λ c κs. search needs)
+    (λ c κs. search needs)
+    (λ c κs. search needs)
     put-shared-requires
     put-shared-requires-2
-    put-byte-requires
-    same-length
+    (λ c κs. search needs)
+    (λ c. search needs)
     returns)

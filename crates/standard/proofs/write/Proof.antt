@@ -10,15 +10,6 @@ use borrow.Author.Needs.{needs}
 use Rattle.standard.proofs.write.Statement.{statement}
 use Rattle.standard.proofs.write.Tie as tie
 
-is-good-requires : tie.Need-is-good-requires
-is-good-requires c κs = search needs
-
-has-fields-requires : tie.Need-has-fields-requires
-has-fields-requires c κs = search needs
-
-notice-agrees-requires : tie.Need-notice-agrees-requires
-notice-agrees-requires c κs = search needs
-
 returns : tie.Need-returns
 returns c =
     let a = c .before .before .before .before .before .before .before .before .args in
@@ -34,9 +25,6 @@ store-requires c κs =
     let h = sym (c .before .before .before .before .before .has-fields .ensures) ∙ c .before .before .before .before .if2 .taken in
     let n = sym (c .before .before .before .notice-agrees .ensures) ∙ c .before .before .if3 .taken in
     (search needs, good-exists (a .r) g h, good-zone (a .r) g, n)
-
-same-length : tie.Need-same-length
-same-length c = search needs
 
 returns-2 : tie.Need-returns-2
 unfolding stores
@@ -71,12 +59,12 @@ pub write-spec : {M : Type 1} → statement M
 write-spec =
     tie.close
     (tie.spec
-    is-good-requires
-    has-fields-requires
-    notice-agrees-requires
+    (λ c κs. search needs)
+    (λ c κs. search needs)
+    (λ c κs. search needs)
     returns
     store-requires
-    same-length
+    (λ c. search needs)
     returns-2
     returns-3
     returns-4

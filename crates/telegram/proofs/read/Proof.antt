@@ -8,15 +8,6 @@ use Rattle.telegram.proofs.Numbers.{other-form}
 use Rattle.telegram.proofs.read.Statement.{statement}
 use Rattle.telegram.proofs.read.Tie as tie
 
-read-requires : tie.Need-read-requires
-read-requires c κs = search needs
-
-read-requires-2 : tie.Need-read-requires-2
-read-requires-2 c κs = search needs
-
-read-requires-3 : tie.Need-read-requires-3
-read-requires-3 c κs = search needs
-
 returns : tie.Need-returns
 unfolding readForm readAs layoutOf
 returns c = c .read .ensures ∙ sym (ap (λ (n : ℕ). readForm n (now (c .before .before .before .args .input))) (c .before .match .keys1))
@@ -33,4 +24,4 @@ returns-3 c =
     c .read3 .ensures ∙ sym (ap (λ (l : Layout). readAs l (now (a .input))) (other-form (a .form) (h .0 .1) (h .1)))
 
 pub read-spec : {M : Type 1} → statement M
-read-spec = tie.close (tie.spec read-requires read-requires-2 read-requires-3 returns returns-2 returns-3)
+read-spec = tie.close (tie.spec (λ c κs. search needs) (λ c κs. search needs) (λ c κs. search needs) returns returns-2 returns-3)

@@ -9,35 +9,17 @@ use Rattle.telegram.proofs.Numbers.{other-form, wrote-block}
 use Rattle.telegram.proofs.write.Statement.{statement}
 use Rattle.telegram.proofs.write.Tie as tie
 
-write-requires : tie.Need-write-requires
-write-requires c κs = search needs
-
-write-requires-2 : tie.Need-write-requires-2
-write-requires-2 c κs = search needs
-
-write-requires-3 : tie.Need-write-requires-3
-write-requires-3 c κs = search needs
-
-same-length : tie.Need-same-length
-same-length c = search needs
-
 returns : tie.Need-returns
 unfolding layoutOf
 returns c =
     let a = c .before .before .before .before .before .before .args in
     wrote-sized (layoutOf allForms (a .form)) (a .r) (now (a .out)) frame (ap (layoutOf allForms) (c .before .before .before .before .match .keys1)) _ _ (c .before .before .write .ensures)
 
-same-length-2 : tie.Need-same-length-2
-same-length-2 c = search needs
-
 returns-2 : tie.Need-returns-2
 unfolding layoutOf
 returns-2 c =
     let a = c .before .before .before .before .before .before .args in
     wrote-block (layoutOf allForms (a .form)) (a .r) _ (now (a .out)) _ (ap (layoutOf allForms) (c .before .before .before .before .match .keys2)) (c .before .before .write2 .ensures)
-
-same-length-3 : tie.Need-same-length-3
-same-length-3 c = search needs
 
 returns-3 : tie.Need-returns-3
 returns-3 c =
@@ -49,12 +31,12 @@ pub write-spec : {M : Type 1} → statement M
 write-spec =
     tie.close
     (tie.spec
-    write-requires
-    write-requires-2
-    write-requires-3
-    same-length
+    (λ c κs. search needs)
+    (λ c κs. search needs)
+    (λ c κs. search needs)
+    (λ c. search needs)
     returns
-    same-length-2
+    (λ c. search needs)
     returns-2
-    same-length-3
+    (λ c. search needs)
     returns-3)

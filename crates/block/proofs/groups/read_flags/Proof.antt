@@ -6,20 +6,11 @@ use borrow.Author.Needs.{needs}
 use Rattle.block.proofs.groups.read_flags.Statement.{statement}
 use Rattle.block.proofs.groups.read_flags.Tie as tie
 
-read-flag-requires : tie.Need-read-flag-requires
-read-flag-requires c κs = search needs
-
 sub-read-flag : tie.Need-sub-read-flag
 sub-read-flag c = first-within _ _ _ (c .read-flag .ensures)
 
 part-read-flag-start : tie.Need-part-read-flag-start
 part-read-flag-start c = omega (arith, first-within _ _ _ (c .read-flag .ensures))
-
-part-read-flag-end : tie.Need-part-read-flag-end
-part-read-flag-end c = search needs
-
-read-flag-requires-2 : tie.Need-read-flag-requires-2
-read-flag-requires-2 c κs = search needs
 
 add-behind : tie.Need-add-behind
 add-behind c = omega (arith, second-within _ _ _ (c .before .before .before .read-flag .ensures) _ _ (c .before .read-flag2 .ensures))
@@ -29,12 +20,6 @@ sub-read-flag-2 c = second-within _ _ _ (c .before .before .before .read-flag .e
 
 part-read-flag-start-2 : tie.Need-part-read-flag-start-2
 part-read-flag-start-2 c = omega (arith, second-within _ _ _ (c .before .before .before .read-flag .ensures) _ _ (c .before .read-flag2 .ensures))
-
-part-read-flag-end-2 : tie.Need-part-read-flag-end-2
-part-read-flag-end-2 c = search needs
-
-read-flag-requires-3 : tie.Need-read-flag-requires-3
-read-flag-requires-3 c κs = search needs
 
 add-t14 : tie.Need-add-t14
 add-t14 c =
@@ -51,15 +36,15 @@ pub read-flags-spec : {M : Type 1} → statement M
 read-flags-spec =
     tie.close
     (tie.spec
-    read-flag-requires
+    (λ c κs. search needs)
     sub-read-flag
     part-read-flag-start
-    part-read-flag-end
-    read-flag-requires-2
+    (λ c. search needs)
+    (λ c κs. search needs)
     add-behind
     sub-read-flag-2
     part-read-flag-start-2
-    part-read-flag-end-2
-    read-flag-requires-3
+    (λ c. search needs)
+    (λ c κs. search needs)
     add-t14
     returns)

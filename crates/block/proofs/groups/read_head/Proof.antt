@@ -6,20 +6,11 @@ use borrow.Author.Needs.{needs}
 use Rattle.block.proofs.groups.read_head.Statement.{statement}
 use Rattle.block.proofs.groups.read_head.Tie as tie
 
-read-date-requires : tie.Need-read-date-requires
-read-date-requires c κs = search needs
-
 sub-read-time : tie.Need-sub-read-time
 sub-read-time c = date-within _ _ (c .read-date .ensures)
 
 part-read-time-start : tie.Need-part-read-time-start
 part-read-time-start c = omega (arith, date-within _ _ (c .read-date .ensures))
-
-part-read-time-end : tie.Need-part-read-time-end
-part-read-time-end c = search needs
-
-read-time-requires : tie.Need-read-time-requires
-read-time-requires c κs = search needs
 
 add-b : tie.Need-add-b
 add-b c =
@@ -36,12 +27,6 @@ part-read-fraction-start c =
     let d = c .before .before .before in
     omega (arith, time-within _ _ (d .read-date .ensures) _ (c .before .read-time .ensures))
 
-part-read-fraction-end : tie.Need-part-read-fraction-end
-part-read-fraction-end c = search needs
-
-read-fraction-requires : tie.Need-read-fraction-requires
-read-fraction-requires c κs = search needs
-
 add-c : tie.Need-add-c
 add-c c =
     let t = c .before .before .before .before in
@@ -56,12 +41,6 @@ part-read-channel-start : tie.Need-part-read-channel-start
 part-read-channel-start c =
     let t = c .before .before .before .before in
     omega (arith, fraction-within _ _ (t .before .before .read-date .ensures) _ (t .read-time .ensures) _ (c .before .read-fraction .ensures))
-
-part-read-channel-end : tie.Need-part-read-channel-end
-part-read-channel-end c = search needs
-
-read-channel-requires : tie.Need-read-channel-requires
-read-channel-requires c κs = search needs
 
 add-t13 : tie.Need-add-t13
 add-t13 c =
@@ -80,20 +59,20 @@ pub read-head-spec : {M : Type 1} → statement M
 read-head-spec =
     tie.close
     (tie.spec
-    read-date-requires
+    (λ c κs. search needs)
     sub-read-time
     part-read-time-start
-    part-read-time-end
-    read-time-requires
+    (λ c. search needs)
+    (λ c κs. search needs)
     add-b
     sub-read-fraction
     part-read-fraction-start
-    part-read-fraction-end
-    read-fraction-requires
+    (λ c. search needs)
+    (λ c κs. search needs)
     add-c
     sub-read-channel
     part-read-channel-start
-    part-read-channel-end
-    read-channel-requires
+    (λ c. search needs)
+    (λ c κs. search needs)
     add-t13
     returns)

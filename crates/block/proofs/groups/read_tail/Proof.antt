@@ -6,26 +6,14 @@ use borrow.Author.Needs.{needs}
 use Rattle.block.proofs.groups.read_tail.Statement.{statement}
 use Rattle.block.proofs.groups.read_tail.Tie as tie
 
-read-offset-requires : tie.Need-read-offset-requires
-read-offset-requires c κs = search needs
-
 sub-read-position : tie.Need-sub-read-position
 sub-read-position c = offset-within _ _ (c .read-offset .ensures)
 
 part-read-position-start : tie.Need-part-read-position-start
 part-read-position-start c = omega (arith, offset-within _ _ (c .read-offset .ensures))
 
-part-read-position-end : tie.Need-part-read-position-end
-part-read-position-end c = search needs
-
-read-position-requires : tie.Need-read-position-requires
-read-position-requires c κs = search needs
-
 add-b : tie.Need-add-b
 add-b c = omega (arith, position-within _ _ (c .before .before .before .read-offset .ensures) _ (c .before .read-position .ensures))
-
-slice-aggregate-read-flag : tie.Need-slice-aggregate-read-flag
-slice-aggregate-read-flag c = search needs
 
 sub-read-flag : tie.Need-sub-read-flag
 sub-read-flag c = position-within _ _ (c .before .before .before .before .read-offset .ensures) _ (c .before .before .read-position .ensures)
@@ -33,19 +21,10 @@ sub-read-flag c = position-within _ _ (c .before .before .before .before .read-o
 part-read-flag-start : tie.Need-part-read-flag-start
 part-read-flag-start c = omega (arith, position-within _ _ (c .before .before .before .before .read-offset .ensures) _ (c .before .before .read-position .ensures))
 
-part-read-flag-end : tie.Need-part-read-flag-end
-part-read-flag-end c = search needs
-
-read-flag-requires : tie.Need-read-flag-requires
-read-flag-requires c κs = search needs
-
 add-c : tie.Need-add-c
 add-c c =
     let t = c .before .before .before .before .before in
     omega (arith, dsp-within _ _ (t .before .before .read-offset .ensures) _ (t .read-position .ensures) _ (c .before .read-flag .ensures))
-
-slice-aggregate-read-flag-2 : tie.Need-slice-aggregate-read-flag-2
-slice-aggregate-read-flag-2 c = search needs
 
 sub-read-flag-2 : tie.Need-sub-read-flag-2
 sub-read-flag-2 c =
@@ -58,12 +37,6 @@ part-read-flag-start-2 c =
     let d = c .before .before in
     let t = d .before .before .before .before in
     omega (arith, dsp-within _ _ (t .before .before .read-offset .ensures) _ (t .read-position .ensures) _ (d .read-flag .ensures))
-
-part-read-flag-end-2 : tie.Need-part-read-flag-end-2
-part-read-flag-end-2 c = search needs
-
-read-flag-requires-2 : tie.Need-read-flag-requires-2
-read-flag-requires-2 c κs = search needs
 
 add-t16 : tie.Need-add-t16
 add-t16 c =
@@ -82,22 +55,22 @@ pub read-tail-spec : {M : Type 1} → statement M
 read-tail-spec =
     tie.close
     (tie.spec
-    read-offset-requires
+    (λ c κs. search needs)
     sub-read-position
     part-read-position-start
-    part-read-position-end
-    read-position-requires
+    (λ c. search needs)
+    (λ c κs. search needs)
     add-b
-    slice-aggregate-read-flag
+    (λ c. search needs)
     sub-read-flag
     part-read-flag-start
-    part-read-flag-end
-    read-flag-requires
+    (λ c. search needs)
+    (λ c κs. search needs)
     add-c
-    slice-aggregate-read-flag-2
+    (λ c. search needs)
     sub-read-flag-2
     part-read-flag-start-2
-    part-read-flag-end-2
-    read-flag-requires-2
+    (λ c. search needs)
+    (λ c κs. search needs)
     add-t16
     returns)

@@ -8,12 +8,6 @@ use borrow.Author.Needs.{needs}
 use Rattle.block.proofs.reader.judged.Statement.{statement}
 use Rattle.block.proofs.reader.judged.Tie as tie
 
-in-range-requires : tie.Need-in-range-requires
-in-range-requires c κs = search needs
-
-zone-agrees-requires : tie.Need-zone-agrees-requires
-zone-agrees-requires c κs = search needs
-
 returns : tie.Need-returns
 unfolding judgedAs
 returns c =
@@ -39,4 +33,4 @@ returns-3 c =
 
 pub judged-spec : {M : Type 1} → statement M
 judged-spec =
-    tie.close (tie.spec in-range-requires zone-agrees-requires returns returns-2 returns-3)
+    tie.close (tie.spec (λ c κs. search needs) (λ c κs. search needs) returns returns-2 returns-3)

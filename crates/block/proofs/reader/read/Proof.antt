@@ -11,19 +11,10 @@ returns c = sym (too-short _ (c .if1 .taken))
 returns-2 : tie.Need-returns-2
 returns-2 c = sym (too-long _ (c .if2 .taken))
 
-shared-slice-read-if3 : tie.Need-shared-slice-read-if3
-shared-slice-read-if3 c = search needs
-
-read-lines-requires : tie.Need-read-lines-requires
-read-lines-requires c κs = search needs
-
-returns-3 : tie.Need-returns-3
-returns-3 c = search needs
-
 returns-4 : tie.Need-returns-4
 returns-4 c = sym (wrong-start _ (c .before .before .before .if1 .left) (c .before .before .if2 .left) (c .if3 .left))
 
 pub read-spec : {M : Type 1} → statement M
 read-spec =
     tie.close
-    (tie.spec returns returns-2 shared-slice-read-if3 read-lines-requires returns-3 returns-4)
+    (tie.spec returns returns-2 (λ c. search needs) (λ c κs. search needs) (λ c. search needs) returns-4)

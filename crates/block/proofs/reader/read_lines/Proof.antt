@@ -8,43 +8,16 @@ use borrow.Author.Needs.{needs}
 use Rattle.block.proofs.reader.read_lines.Statement.{statement}
 use Rattle.block.proofs.reader.read_lines.Tie as tie
 
-read-head-requires : tie.Need-read-head-requires
-read-head-requires c κs = search needs
-
-slice-aggregate-read-flags : tie.Need-slice-aggregate-read-flags
-slice-aggregate-read-flags c = search needs
-
-slice-aggregate-read-flags-2 : tie.Need-slice-aggregate-read-flags-2
-slice-aggregate-read-flags-2 c = search needs
-
-slice-aggregate-read-flags-3 : tie.Need-slice-aggregate-read-flags-3
-slice-aggregate-read-flags-3 c = search needs
-
 sub-read-flags : tie.Need-sub-read-flags
 sub-read-flags c = head-within _ _ (c .before .before .before .read-head .ensures)
 
 part-read-flags-start : tie.Need-part-read-flags-start
 part-read-flags-start c = omega (arith, head-within _ _ (c .before .before .before .read-head .ensures))
 
-part-read-flags-end : tie.Need-part-read-flags-end
-part-read-flags-end c = search needs
-
-read-flags-requires : tie.Need-read-flags-requires
-read-flags-requires c κs = search needs
-
 add-b : tie.Need-add-b
 add-b c =
     let z = c .before in
     omega (arith, status-within _ _ (z .before .before .before .before .before .read-head .ensures) _ (z .read-flags .ensures))
-
-slice-aggregate-read-flags-4 : tie.Need-slice-aggregate-read-flags-4
-slice-aggregate-read-flags-4 c = search needs
-
-slice-aggregate-read-flags-5 : tie.Need-slice-aggregate-read-flags-5
-slice-aggregate-read-flags-5 c = search needs
-
-slice-aggregate-read-flags-6 : tie.Need-slice-aggregate-read-flags-6
-slice-aggregate-read-flags-6 c = search needs
 
 sub-read-flags-2 : tie.Need-sub-read-flags-2
 sub-read-flags-2 c =
@@ -55,12 +28,6 @@ part-read-flags-start-2 : tie.Need-part-read-flags-start-2
 part-read-flags-start-2 c =
     let z = c .before .before .before .before in
     omega (arith, status-within _ _ (z .before .before .before .before .before .read-head .ensures) _ (z .read-flags .ensures))
-
-part-read-flags-end-2 : tie.Need-part-read-flags-end-2
-part-read-flags-end-2 c = search needs
-
-read-flags-requires-2 : tie.Need-read-flags-requires-2
-read-flags-requires-2 c κs = search needs
 
 add-c : tie.Need-add-c
 add-c c =
@@ -77,12 +44,6 @@ part-read-tail-start c =
     let z = c .before .before .before .before .before .before .before in
     omega (arith, notices-within _ _ (z .before .before .before .before .before .read-head .ensures) _ (z .read-flags .ensures) _ (c .before .read-flags2 .ensures))
 
-part-read-tail-end : tie.Need-part-read-tail-end
-part-read-tail-end c = search needs
-
-read-tail-requires : tie.Need-read-tail-requires
-read-tail-requires c κs = search needs
-
 add-if1 : tie.Need-add-if1
 add-if1 c =
     let t = c .before in
@@ -98,12 +59,6 @@ returns c =
     let z = n .before .before .before .before .before .before in
     let h = z .before .before .before .before .before in
     sym (wrong-width _ _ (h .read-head .ensures) _ (z .read-flags .ensures) _ (n .read-flags2 .ensures) _ (t .read-tail .ensures) (h .before .before .pre .0) (h .before .before .pre .1) (c .if1 .taken))
-
-record-of-requires : tie.Need-record-of-requires
-record-of-requires c κs = search needs
-
-judged-requires : tie.Need-judged-requires
-judged-requires c κs = search needs
 
 returns-2 : tie.Need-returns-2
 returns-2 c =
@@ -126,30 +81,30 @@ pub read-lines-spec : {M : Type 1} → statement M
 read-lines-spec =
     tie.close
     (tie.spec
-    read-head-requires
-    slice-aggregate-read-flags
-    slice-aggregate-read-flags-2
-    slice-aggregate-read-flags-3
+    (λ c κs. search needs)
+    (λ c. search needs)
+    (λ c. search needs)
+    (λ c. search needs)
     sub-read-flags
     part-read-flags-start
-    part-read-flags-end
-    read-flags-requires
+    (λ c. search needs)
+    (λ c κs. search needs)
     add-b
-    slice-aggregate-read-flags-4
-    slice-aggregate-read-flags-5
-    slice-aggregate-read-flags-6
+    (λ c. search needs)
+    (λ c. search needs)
+    (λ c. search needs)
     sub-read-flags-2
     part-read-flags-start-2
-    part-read-flags-end-2
-    read-flags-requires-2
+    (λ c. search needs)
+    (λ c κs. search needs)
     add-c
     sub-read-tail
     part-read-tail-start
-    part-read-tail-end
-    read-tail-requires
+    (λ c. search needs)
+    (λ c κs. search needs)
     add-if1
     returns
-    record-of-requires
-    judged-requires
+    (λ c κs. search needs)
+    (λ c κs. search needs)
     returns-2
     returns-3)

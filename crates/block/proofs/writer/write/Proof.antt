@@ -11,12 +11,6 @@ use borrow.Author.Needs.{needs}
 use Rattle.block.proofs.writer.write.Statement.{statement}
 use Rattle.block.proofs.writer.write.Tie as tie
 
-is-good-requires : tie.Need-is-good-requires
-is-good-requires c κs = search needs
-
-size-requires : tie.Need-size-requires
-size-requires c κs = search needs
-
 returns : tie.Need-returns
 returns c =
     let a = c .before .before .before .before .before .args in
@@ -25,9 +19,6 @@ returns c =
 
 write-lines-requires : tie.Need-write-lines-requires
 write-lines-requires c κs = omega (arith, c .before .before .size .ensures)
-
-same-length : tie.Need-same-length
-same-length c = search needs
 
 returns-2 : tie.Need-returns-2
 returns-2 c =
@@ -46,10 +37,10 @@ pub write-spec : {M : Type 1} → statement M
 write-spec =
     tie.close
     (tie.spec
-    is-good-requires
-    size-requires
+    (λ c κs. search needs)
+    (λ c κs. search needs)
     returns
     write-lines-requires
-    same-length
+    (λ c. search needs)
     returns-2
     returns-3)

@@ -9,85 +9,49 @@ use borrow.Author.Needs.{needs}
 use Rattle.block.proofs.writer.write_flags.Statement.{statement}
 use Rattle.block.proofs.writer.write_flags.Tie as tie
 
-slice-aggregate-write-flag : tie.Need-slice-aggregate-write-flag
-slice-aggregate-write-flag c = search needs
-
 write-flag-requires : tie.Need-write-flag-requires
 unfolding lineOf
 write-flag-requires c κs = omega (arith, flag-width "sync=" sync (c .before .before .before .before .args .r .sync), simp (c .before .before .if1 .taken) at (c .before .before .before .before .pre .2))
-
-same-length : tie.Need-same-length
-same-length c = search needs
 
 returns : tie.Need-returns
 unfolding lineOf
 returns c = simp (c .before .before .before .before .before .if1 .taken) (flag-laid "sync=" sync (c .before .before .before .before .before .before .before .args .r .sync) (told (c .before .before .before .before .before .before .before .args .r)) _ _ _ (c .before .before .write-flag .ensures))
 
-slice-aggregate-write-flag-2 : tie.Need-slice-aggregate-write-flag-2
-slice-aggregate-write-flag-2 c = search needs
-
 write-flag-requires-2 : tie.Need-write-flag-requires-2
 unfolding lineOf
 write-flag-requires-2 c κs = omega (arith, flag-width "fix=" fix (c .before .before .before .before .before .args .r .fix), simp (c .before .before .if2 .taken) at (c .before .before .before .before .before .pre .2))
-
-same-length-2 : tie.Need-same-length-2
-same-length-2 c = search needs
 
 returns-2 : tie.Need-returns-2
 unfolding lineOf
 returns-2 c = simp (c .before .before .before .before .before .if2 .taken) (flag-laid "fix=" fix (c .before .before .before .before .before .before .before .before .args .r .fix) (told (c .before .before .before .before .before .before .before .before .args .r)) _ _ _ (c .before .before .write-flag2 .ensures))
 
-slice-aggregate-write-flag-3 : tie.Need-slice-aggregate-write-flag-3
-slice-aggregate-write-flag-3 c = search needs
-
 write-flag-requires-3 : tie.Need-write-flag-requires-3
 unfolding lineOf
 write-flag-requires-3 c κs = omega (arith, flag-width "utc=" utc (c .before .before .before .before .before .before .args .r .utc), simp (c .before .before .if3 .taken) at (c .before .before .before .before .before .before .pre .2))
-
-same-length-3 : tie.Need-same-length-3
-same-length-3 c = search needs
 
 returns-3 : tie.Need-returns-3
 unfolding lineOf
 returns-3 c = simp (c .before .before .before .before .before .if3 .taken) (flag-laid "utc=" utc (c .before .before .before .before .before .before .before .before .before .args .r .utc) (told (c .before .before .before .before .before .before .before .before .before .args .r)) _ _ _ (c .before .before .write-flag3 .ensures))
 
-slice-aggregate-write-flag-4 : tie.Need-slice-aggregate-write-flag-4
-slice-aggregate-write-flag-4 c = search needs
-
 write-flag-requires-4 : tie.Need-write-flag-requires-4
 unfolding lineOf
 write-flag-requires-4 c κs = omega (arith, flag-width "summer=" summer (c .before .before .before .before .before .before .before .args .r .summer), simp (c .before .before .if4 .taken) at (c .before .before .before .before .before .before .before .pre .2))
-
-same-length-4 : tie.Need-same-length-4
-same-length-4 c = search needs
 
 returns-4 : tie.Need-returns-4
 unfolding lineOf
 returns-4 c = simp (c .before .before .before .before .before .if4 .taken) (flag-laid "summer=" summer (c .before .before .before .before .before .before .before .before .before .before .args .r .summer) (told (c .before .before .before .before .before .before .before .before .before .before .args .r)) _ _ _ (c .before .before .write-flag4 .ensures))
 
-slice-aggregate-write-flag-5 : tie.Need-slice-aggregate-write-flag-5
-slice-aggregate-write-flag-5 c = search needs
-
 write-flag-requires-5 : tie.Need-write-flag-requires-5
 unfolding lineOf
 write-flag-requires-5 c κs = omega (arith, flag-width "change=" change (c .before .before .before .before .before .before .before .before .args .r .change), simp (c .before .before .if5 .taken) at (c .before .before .before .before .before .before .before .before .pre .2))
-
-same-length-5 : tie.Need-same-length-5
-same-length-5 c = search needs
 
 returns-5 : tie.Need-returns-5
 unfolding lineOf
 returns-5 c = simp (c .before .before .before .before .before .if5 .taken) (flag-laid "change=" change (c .before .before .before .before .before .before .before .before .before .before .before .args .r .change) (told (c .before .before .before .before .before .before .before .before .before .before .before .args .r)) _ _ _ (c .before .before .write-flag5 .ensures))
 
-slice-aggregate-write-flag-6 : tie.Need-slice-aggregate-write-flag-6
-slice-aggregate-write-flag-6 c = search needs
-
 write-flag-requires-6 : tie.Need-write-flag-requires-6
 unfolding lineOf
 write-flag-requires-6 c κs = let e : c .before .before .before .before .before .before .before .before .args .i ≡ 9 = omega arith in omega (arith, flag-width "leap=" leap (c .before .before .before .before .before .before .before .before .args .r .leap), simp (e) at (c .before .before .before .before .before .before .before .before .pre .2))
-
-same-length-6 : tie.Need-same-length-6
-same-length-6 c = search needs
 
 returns-6 : tie.Need-returns-6
 unfolding lineOf
@@ -97,27 +61,27 @@ pub write-flags-spec : {M : Type 1} → statement M
 write-flags-spec =
     tie.close
     (tie.spec
-    slice-aggregate-write-flag
+    (λ c. search needs)
     write-flag-requires
-    same-length
+    (λ c. search needs)
     returns
-    slice-aggregate-write-flag-2
+    (λ c. search needs)
     write-flag-requires-2
-    same-length-2
+    (λ c. search needs)
     returns-2
-    slice-aggregate-write-flag-3
+    (λ c. search needs)
     write-flag-requires-3
-    same-length-3
+    (λ c. search needs)
     returns-3
-    slice-aggregate-write-flag-4
+    (λ c. search needs)
     write-flag-requires-4
-    same-length-4
+    (λ c. search needs)
     returns-4
-    slice-aggregate-write-flag-5
+    (λ c. search needs)
     write-flag-requires-5
-    same-length-5
+    (λ c. search needs)
     returns-5
-    slice-aggregate-write-flag-6
+    (λ c. search needs)
     write-flag-requires-6
-    same-length-6
+    (λ c. search needs)
     returns-6)

@@ -12,9 +12,6 @@ write-date-requires : tie.Need-write-date-requires
 unfolding lineOf rowWidth
 write-date-requires c κs = simp (c .before .if1 .taken) at (c .before .before .before .pre .1)
 
-same-length : tie.Need-same-length
-same-length c = search needs
-
 returns : tie.Need-returns
 unfolding lineOf
 returns c = simp (c .before .before .before .before .if1 .taken) (c .before .before .write-date .ensures)
@@ -23,9 +20,6 @@ write-time-requires : tie.Need-write-time-requires
 unfolding lineOf rowWidth
 write-time-requires c κs = simp (c .before .if2 .taken) at (c .before .before .before .before .pre .1)
 
-same-length-2 : tie.Need-same-length-2
-same-length-2 c = search needs
-
 returns-2 : tie.Need-returns-2
 unfolding lineOf
 returns-2 c = simp (c .before .before .before .before .if2 .taken) (c .before .before .write-time .ensures)
@@ -33,9 +27,6 @@ returns-2 c = simp (c .before .before .before .before .if2 .taken) (c .before .b
 write-fraction-requires : tie.Need-write-fraction-requires
 unfolding lineOf rowWidth
 write-fraction-requires c κs = simp (c .before .if3 .taken) at (c .before .before .before .before .before .pre .1)
-
-same-length-3 : tie.Need-same-length-3
-same-length-3 c = search needs
 
 returns-3 : tie.Need-returns-3
 unfolding lineOf
@@ -47,9 +38,6 @@ write-channel-requires c κs =
     let e : c .before .before .before .before .before .args .i ≡ 3 = omega arith in
     omega (arith, channel-width (c .before .before .before .before .before .args .r .channel), simp (e) at (c .before .before .before .before .before .pre .1))
 
-same-length-4 : tie.Need-same-length-4
-same-length-4 c = search needs
-
 returns-4 : tie.Need-returns-4
 unfolding lineOf
 returns-4 c = let e : c .before .before .before .before .before .before .before .before .args .i ≡ 3 = omega arith in simp (e) (c .before .before .write-channel .ensures)
@@ -59,14 +47,14 @@ write-head-spec =
     tie.close
     (tie.spec
     write-date-requires
-    same-length
+    (λ c. search needs)
     returns
     write-time-requires
-    same-length-2
+    (λ c. search needs)
     returns-2
     write-fraction-requires
-    same-length-3
+    (λ c. search needs)
     returns-3
     write-channel-requires
-    same-length-4
+    (λ c. search needs)
     returns-4)

@@ -13,9 +13,6 @@ write-offset-requires : tie.Need-write-offset-requires
 unfolding lineOf
 write-offset-requires c κs = simp (c .before .if1 .taken) at (c .before .before .before .pre .2)
 
-same-length : tie.Need-same-length
-same-length c = search needs
-
 returns : tie.Need-returns
 unfolding lineOf
 returns c = simp (c .before .before .before .before .if1 .taken) (c .before .before .write-offset .ensures)
@@ -24,36 +21,21 @@ write-position-requires : tie.Need-write-position-requires
 unfolding lineOf
 write-position-requires c κs = simp (c .before .if2 .taken) at (c .before .before .before .before .pre .2)
 
-same-length-2 : tie.Need-same-length-2
-same-length-2 c = search needs
-
 returns-2 : tie.Need-returns-2
 unfolding lineOf
 returns-2 c = simp (c .before .before .before .before .if2 .taken) (c .before .before .write-position .ensures)
-
-slice-aggregate-write-flag : tie.Need-slice-aggregate-write-flag
-slice-aggregate-write-flag c = search needs
 
 write-flag-requires : tie.Need-write-flag-requires
 unfolding lineOf
 write-flag-requires c κs = omega (arith, flag-width "dsp=" dsp (c .before .before .before .before .before .before .args .r .dsp), simp (c .before .before .if3 .taken) at (c .before .before .before .before .before .before .pre .2))
 
-same-length-3 : tie.Need-same-length-3
-same-length-3 c = search needs
-
 returns-3 : tie.Need-returns-3
 unfolding lineOf
 returns-3 c = simp (c .before .before .before .before .before .if3 .taken) (flag-laid "dsp=" dsp (c .before .before .before .before .before .before .before .before .before .args .r .dsp) (told (c .before .before .before .before .before .before .before .before .before .args .r)) _ _ _ (c .before .before .write-flag .ensures))
 
-slice-aggregate-write-flag-2 : tie.Need-slice-aggregate-write-flag-2
-slice-aggregate-write-flag-2 c = search needs
-
 write-flag-requires-2 : tie.Need-write-flag-requires-2
 unfolding lineOf
 write-flag-requires-2 c κs = let e : c .before .before .before .before .before .before .args .i ≡ 13 = omega arith in omega (arith, flag-width "lsp=" lsp (c .before .before .before .before .before .before .args .r .lsp), simp (e) at (c .before .before .before .before .before .before .pre .2))
-
-same-length-4 : tie.Need-same-length-4
-same-length-4 c = search needs
 
 returns-4 : tie.Need-returns-4
 unfolding lineOf
@@ -64,16 +46,16 @@ write-tail-spec =
     tie.close
     (tie.spec
     write-offset-requires
-    same-length
+    (λ c. search needs)
     returns
     write-position-requires
-    same-length-2
+    (λ c. search needs)
     returns-2
-    slice-aggregate-write-flag
+    (λ c. search needs)
     write-flag-requires
-    same-length-3
+    (λ c. search needs)
     returns-3
-    slice-aggregate-write-flag-2
+    (λ c. search needs)
     write-flag-requires-2
-    same-length-4
+    (λ c. search needs)
     returns-4)

@@ -15,24 +15,6 @@ returns : tie.Need-returns
 unfolding isClosed rowWidth
 returns c = too-short (getD dateLine 2 []) (c .before .before .args .s .now) refl (omega arith)
 
-slice-aggregate-text-at : tie.Need-slice-aggregate-text-at
-slice-aggregate-text-at c = search needs
-
-text-at-requires : tie.Need-text-at-requires
-text-at-requires c κs = search needs
-
-slice-aggregate-text-at-2 : tie.Need-slice-aggregate-text-at-2
-slice-aggregate-text-at-2 c = search needs
-
-text-at-requires-2 : tie.Need-text-at-requires-2
-text-at-requires-2 c κs = search needs
-
-digits-at-requires : tie.Need-digits-at-requires
-digits-at-requires c κs = search needs
-
-is-at-requires : tie.Need-is-at-requires
-is-at-requires c κs = search needs
-
 returns-2 : tie.Need-returns-2
 unfolding shape
 returns-2 c = simp (c .is-at .ensures, c .before .digits-at .ensures, c .before .before .text-at2 .ensures, c .before .before .before .before .text-at .ensures, and-true)
@@ -42,10 +24,10 @@ has-day-of-year-spec =
     tie.close
     (tie.spec
     returns
-    slice-aggregate-text-at
-    text-at-requires
-    slice-aggregate-text-at-2
-    text-at-requires-2
-    digits-at-requires
-    is-at-requires
+    (λ c. search needs)
+    (λ c κs. search needs)
+    (λ c. search needs)
+    (λ c κs. search needs)
+    (λ c κs. search needs)
+    (λ c κs. search needs)
     returns-2)

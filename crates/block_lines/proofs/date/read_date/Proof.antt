@@ -14,23 +14,11 @@ use borrow.Author.Needs.{needs}
 use Rattle.block_lines.proofs.date.read_date.Statement.{statement}
 use Rattle.block_lines.proofs.date.read_date.Tie as tie
 
-slice-aggregate-has-word : tie.Need-slice-aggregate-has-word
-slice-aggregate-has-word c = search needs
-
-slice-aggregate-has-word-2 : tie.Need-slice-aggregate-has-word-2
-slice-aggregate-has-word-2 c = search needs
-
-has-word-requires : tie.Need-has-word-requires
-has-word-requires c κs = search needs
-
 returns : tie.Need-returns
 unfolding dateFound layoutAt carriesOf has values dateFrom rowWidth
 returns c =
     let h1 : shape (getD dateLine 0 []) 0 (c .before .before .before .before .before .args .s .now) ≡ true = (sym (c .before .has-word .ensures) ∙ c .if1 .taken) in
     simp h1
-
-has-full-date-requires : tie.Need-has-full-date-requires
-has-full-date-requires c κs = search needs
 
 number-at-requires : tie.Need-number-at-requires
 unfolding isClosed rowWidth
@@ -50,9 +38,6 @@ returns-2 c =
     let h1 : shape (getD dateLine 0 []) 0 (c .before .before .before .before .before .before .before .before .before .before .args .s .now) ≡ false = (sym (c .before .before .before .before .before .before .has-word .ensures) ∙ c .before .before .before .before .before .if1 .left) in
     let h2 : shape (getD dateLine 1 []) 0 (c .before .before .before .before .before .before .before .before .before .before .args .s .now) ≡ true = (sym (c .before .before .before .before .has-full-date .ensures) ∙ c .before .before .before .if2 .taken) in
     simp (h1, h2, c .number-at3 .ensures .0, c .before .number-at2 .ensures .0, c .before .before .number-at .ensures .0)
-
-has-day-of-year-requires : tie.Need-has-day-of-year-requires
-has-day-of-year-requires c κs = search needs
 
 number-at-requires-4 : tie.Need-number-at-requires-4
 unfolding isClosed rowWidth
@@ -78,16 +63,16 @@ pub read-date-spec : {M : Type 1} → statement M
 read-date-spec =
     tie.close
     (tie.spec
-    slice-aggregate-has-word
-    slice-aggregate-has-word-2
-    has-word-requires
+    (λ c. search needs)
+    (λ c. search needs)
+    (λ c κs. search needs)
     returns
-    has-full-date-requires
+    (λ c κs. search needs)
     number-at-requires
     number-at-requires-2
     number-at-requires-3
     returns-2
-    has-day-of-year-requires
+    (λ c κs. search needs)
     number-at-requires-4
     returns-3
     returns-4)

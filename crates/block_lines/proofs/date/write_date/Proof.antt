@@ -6,49 +6,25 @@ use borrow.Author.Needs.{needs}
 use Rattle.block_lines.proofs.date.write_date.Statement.{statement}
 use Rattle.block_lines.proofs.date.write_date.Tie as tie
 
-enum-told : tie.Need-enum-told
-enum-told c = search needs
-
-slice-aggregate-put-word : tie.Need-slice-aggregate-put-word
-slice-aggregate-put-word c = search needs
-
-slice-aggregate-put-word-2 : tie.Need-slice-aggregate-put-word-2
-slice-aggregate-put-word-2 c = search needs
-
 put-word-requires : tie.Need-put-word-requires
 unfolding rowWidth
 put-word-requires c κs = omega (arith, simp (c .before .before .before .enum-told .given .1) at (c .before .before .before .before .before .before .pre))
-
-enum-known-date : tie.Need-enum-known-date
-enum-known-date c = search needs
 
 put-full-date-requires : tie.Need-put-full-date-requires
 unfolding rowWidth
 put-full-date-requires c κs = omega (arith, simp (c .before .before .date .given .1) at (c .before .before .before .before .before .pre))
 
-enum-known-date-2 : tie.Need-enum-known-date-2
-enum-known-date-2 c = search needs
-
 put-day-of-year-requires : tie.Need-put-day-of-year-requires
 unfolding rowWidth
 put-day-of-year-requires c κs = omega (arith, simp (c .before .before .date2 .given .1) at (c .before .before .before .before .before .pre))
-
-same-length : tie.Need-same-length
-same-length c = search needs
 
 returns : tie.Need-returns
 unfolding stores rowWidth
 returns c = simp (c .before .before .before .before .before .before .enum-told .given .1) (c .before .before .put-word .ensures)
 
-same-length-2 : tie.Need-same-length-2
-same-length-2 c = search needs
-
 returns-2 : tie.Need-returns-2
 unfolding stores rowWidth
 returns-2 c = simp (c .before .before .before .before .before .date .given .1) (c .before .before .put-full-date .ensures)
-
-same-length-3 : tie.Need-same-length-3
-same-length-3 c = search needs
 
 returns-3 : tie.Need-returns-3
 unfolding stores rowWidth
@@ -58,17 +34,17 @@ pub write-date-spec : {M : Type 1} → statement M
 write-date-spec =
     tie.close
     (tie.spec
-    enum-told
-    slice-aggregate-put-word
-    slice-aggregate-put-word-2
+    (λ c. search needs)
+    (λ c. search needs)
+    (λ c. search needs)
     put-word-requires
-    enum-known-date
+    (λ c. search needs)
     put-full-date-requires
-    enum-known-date-2
+    (λ c. search needs)
     put-day-of-year-requires
-    same-length
+    (λ c. search needs)
     returns
-    same-length-2
+    (λ c. search needs)
     returns-2
-    same-length-3
+    (λ c. search needs)
     returns-3)

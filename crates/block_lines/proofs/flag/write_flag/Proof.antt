@@ -4,47 +4,20 @@ use borrow.Author.Needs.{needs}
 use Rattle.block_lines.proofs.flag.write_flag.Statement.{statement}
 use Rattle.block_lines.proofs.flag.write_flag.Tie as tie
 
-enum-told : tie.Need-enum-told
-enum-told c = search needs
-
-slice-aggregate-put-word : tie.Need-slice-aggregate-put-word
-slice-aggregate-put-word c = search needs
-
 put-word-requires : tie.Need-put-word-requires
 put-word-requires c κs = omega (arith, simp (c .before .before .enum-told .given .1) at (c .before .before .before .before .before .before .pre))
-
-enum-told-2 : tie.Need-enum-told-2
-enum-told-2 c = search needs
-
-slice-aggregate-put-word-2 : tie.Need-slice-aggregate-put-word-2
-slice-aggregate-put-word-2 c = search needs
 
 put-word-requires-2 : tie.Need-put-word-requires-2
 put-word-requires-2 c κs = omega (arith, simp (c .before .before .enum-told2 .given .1) at (c .before .before .before .before .before .before .pre))
 
-enum-told-3 : tie.Need-enum-told-3
-enum-told-3 c = search needs
-
-slice-aggregate-put-word-3 : tie.Need-slice-aggregate-put-word-3
-slice-aggregate-put-word-3 c = search needs
-
 put-word-requires-3 : tie.Need-put-word-requires-3
 put-word-requires-3 c κs = omega (arith, simp (c .before .before .enum-told3 .given .1) at (c .before .before .before .before .before .before .pre))
-
-same-length : tie.Need-same-length
-same-length c = search needs
 
 returns : tie.Need-returns
 returns c = simp (c .before .before .before .before .before .enum-told .given .1) (c .before .before .put-word .ensures)
 
-same-length-2 : tie.Need-same-length-2
-same-length-2 c = search needs
-
 returns-2 : tie.Need-returns-2
 returns-2 c = simp (c .before .before .before .before .before .enum-told2 .given .1) (c .before .before .put-word2 .ensures)
-
-same-length-3 : tie.Need-same-length-3
-same-length-3 c = search needs
 
 returns-3 : tie.Need-returns-3
 returns-3 c = simp (c .before .before .before .before .before .enum-told3 .given .1) (c .before .before .put-word3 .ensures)
@@ -53,18 +26,18 @@ pub write-flag-spec : {M : Type 1} → statement M
 write-flag-spec =
     tie.close
     (tie.spec
-    enum-told
-    slice-aggregate-put-word
+    (λ c. search needs)
+    (λ c. search needs)
     put-word-requires
-    enum-told-2
-    slice-aggregate-put-word-2
+    (λ c. search needs)
+    (λ c. search needs)
     put-word-requires-2
-    enum-told-3
-    slice-aggregate-put-word-3
+    (λ c. search needs)
+    (λ c. search needs)
     put-word-requires-3
-    same-length
+    (λ c. search needs)
     returns
-    same-length-2
+    (λ c. search needs)
     returns-2
-    same-length-3
+    (λ c. search needs)
     returns-3)

@@ -6,20 +6,8 @@ use borrow.Author.Needs.{needs}
 use Rattle.block_lines.proofs.line.has_word.Statement.{statement}
 use Rattle.block_lines.proofs.line.has_word.Tie as tie
 
-add-end : tie.Need-add-end
-add-end c = search needs
-
 returns : tie.Need-returns
 returns c = let a = c .before .before .before .before .args in word-closed (a .key .now) (a .s .now) (a .word .now) (omega arith)
-
-text-at-requires : tie.Need-text-at-requires
-text-at-requires c κs = search needs
-
-text-at-requires-2 : tie.Need-text-at-requires-2
-text-at-requires-2 c κs = search needs
-
-is-at-requires : tie.Need-is-at-requires
-is-at-requires c κs = search needs
 
 returns-2 : tie.Need-returns-2
 returns-2 c = let a = c .before .before .before .before .before .before .before .args in simp (c .is-at .ensures, c .before .text-at2 .ensures, c .before .before .text-at .ensures) (sym (word-shape (a .key .now) (a .s .now) (a .word .now)))
@@ -27,4 +15,4 @@ returns-2 c = let a = c .before .before .before .before .before .before .before 
 pub has-word-spec : {M : Type 1} → statement M
 has-word-spec =
     tie.close
-    (tie.spec add-end returns text-at-requires text-at-requires-2 is-at-requires returns-2)
+    (tie.spec (λ c. search needs) returns (λ c κs. search needs) (λ c κs. search needs) (λ c κs. search needs) returns-2)

@@ -14,26 +14,11 @@ use borrow.Author.Needs.{needs}
 use Rattle.block_lines.proofs.numbers.read_channel.Statement.{statement}
 use Rattle.block_lines.proofs.numbers.read_channel.Tie as tie
 
-slice-aggregate-has-word : tie.Need-slice-aggregate-has-word
-slice-aggregate-has-word c = search needs
-
-slice-aggregate-has-word-2 : tie.Need-slice-aggregate-has-word-2
-slice-aggregate-has-word-2 c = search needs
-
-has-word-requires : tie.Need-has-word-requires
-has-word-requires c κs = search needs
-
 returns : tie.Need-returns
 unfolding channelFound layoutAt carriesOf has values channelFrom rowWidth
 returns c =
     let h1 : shape (getD channelLine 0 []) 0 (c .before .before .before .before .before .args .s .now) ≡ true = (sym (c .before .has-word .ensures) ∙ c .if1 .taken) in
     simp h1
-
-slice-aggregate-has-number : tie.Need-slice-aggregate-has-number
-slice-aggregate-has-number c = search needs
-
-has-number-requires : tie.Need-has-number-requires
-has-number-requires c κs = search needs
 
 number-at-requires : tie.Need-number-at-requires
 unfolding isClosed rowWidth
@@ -59,12 +44,12 @@ pub read-channel-spec : {M : Type 1} → statement M
 read-channel-spec =
     tie.close
     (tie.spec
-    slice-aggregate-has-word
-    slice-aggregate-has-word-2
-    has-word-requires
+    (λ c. search needs)
+    (λ c. search needs)
+    (λ c κs. search needs)
     returns
-    slice-aggregate-has-number
-    has-number-requires
+    (λ c. search needs)
+    (λ c κs. search needs)
     number-at-requires
     returns-2
     returns-3)

@@ -14,26 +14,11 @@ use borrow.Author.Needs.{needs}
 use Rattle.block_lines.proofs.numbers.read_fraction.Statement.{statement}
 use Rattle.block_lines.proofs.numbers.read_fraction.Tie as tie
 
-slice-aggregate-has-word : tie.Need-slice-aggregate-has-word
-slice-aggregate-has-word c = search needs
-
-slice-aggregate-has-word-2 : tie.Need-slice-aggregate-has-word-2
-slice-aggregate-has-word-2 c = search needs
-
-has-word-requires : tie.Need-has-word-requires
-has-word-requires c κs = search needs
-
 returns : tie.Need-returns
 unfolding fractionFound layoutAt carriesOf has values fractionFrom rowWidth
 returns c =
     let h1 : shape (getD fractionLine 0 []) 0 (c .before .before .before .before .before .args .s .now) ≡ true = (sym (c .before .has-word .ensures) ∙ c .if1 .taken) in
     simp h1
-
-slice-aggregate-has-number : tie.Need-slice-aggregate-has-number
-slice-aggregate-has-number c = search needs
-
-has-number-requires : tie.Need-has-number-requires
-has-number-requires c κs = search needs
 
 number-at-requires : tie.Need-number-at-requires
 unfolding isClosed rowWidth
@@ -47,12 +32,6 @@ returns-2 c =
     let h1 : shape (getD fractionLine 0 []) 0 (c .before .before .before .before .before .before .before .before .before .args .s .now) ≡ false = (sym (c .before .before .before .before .before .has-word .ensures) ∙ c .before .before .before .before .if1 .left) in
     let h2 : shape (getD fractionLine 1 []) 0 (c .before .before .before .before .before .before .before .before .before .args .s .now) ≡ true = unfold shape in (sym (c .before .before .has-number .ensures) ∙ c .before .if2 .taken) in
     simp (h1, h2, c .number-at .ensures .0)
-
-slice-aggregate-has-number-2 : tie.Need-slice-aggregate-has-number-2
-slice-aggregate-has-number-2 c = search needs
-
-has-number-requires-2 : tie.Need-has-number-requires-2
-has-number-requires-2 c κs = search needs
 
 number-at-requires-2 : tie.Need-number-at-requires-2
 unfolding isClosed rowWidth
@@ -80,16 +59,16 @@ pub read-fraction-spec : {M : Type 1} → statement M
 read-fraction-spec =
     tie.close
     (tie.spec
-    slice-aggregate-has-word
-    slice-aggregate-has-word-2
-    has-word-requires
+    (λ c. search needs)
+    (λ c. search needs)
+    (λ c κs. search needs)
     returns
-    slice-aggregate-has-number
-    has-number-requires
+    (λ c. search needs)
+    (λ c κs. search needs)
     number-at-requires
     returns-2
-    slice-aggregate-has-number-2
-    has-number-requires-2
+    (λ c. search needs)
+    (λ c κs. search needs)
     number-at-requires-2
     returns-3
     returns-4)

@@ -12,15 +12,6 @@ use borrow.Author.Needs.{needs}
 use Rattle.block_lines.proofs.offset.offset_at.Statement.{statement}
 use Rattle.block_lines.proofs.offset.offset_at.Tie as tie
 
-shared-slice-read-behind : tie.Need-shared-slice-read-behind
-shared-slice-read-behind c = search needs
-
-minutes-at-requires : tie.Need-minutes-at-requires
-minutes-at-requires c κs = search needs
-
-signed-number-requires : tie.Need-signed-number-requires
-signed-number-requires c κs = search needs
-
 returns : tie.Need-returns
 unfolding values offsetFrom
 returns c =
@@ -32,7 +23,7 @@ pub offset-at-spec : {M : Type 1} → statement M
 offset-at-spec =
     tie.close
     (tie.spec
-    shared-slice-read-behind
-    minutes-at-requires
-    signed-number-requires
+    (λ c. search needs)
+    (λ c κs. search needs)
+    (λ c κs. search needs)
     returns)

@@ -15,23 +15,11 @@ use borrow.Author.Needs.{needs}
 use Rattle.block_lines.proofs.offset.read_offset.Statement.{statement}
 use Rattle.block_lines.proofs.offset.read_offset.Tie as tie
 
-slice-aggregate-has-word : tie.Need-slice-aggregate-has-word
-slice-aggregate-has-word c = search needs
-
-slice-aggregate-has-word-2 : tie.Need-slice-aggregate-has-word-2
-slice-aggregate-has-word-2 c = search needs
-
-has-word-requires : tie.Need-has-word-requires
-has-word-requires c κs = search needs
-
 returns : tie.Need-returns
 unfolding offsetFound layoutAt carriesOf has values rowWidth offsetFrom minutesFrom signTied
 returns c =
     let h1 : shape (getD offsetLine 0 []) 0 (c .before .before .before .before .before .args .s .now) ≡ true = (sym (c .before .has-word .ensures) ∙ c .if1 .taken) in
     simp h1
-
-has-offset-requires : tie.Need-has-offset-requires
-has-offset-requires c κs = search needs
 
 offset-at-requires : tie.Need-offset-at-requires
 unfolding isClosed rowWidth
@@ -63,11 +51,11 @@ pub read-offset-spec : {M : Type 1} → statement M
 read-offset-spec =
     tie.close
     (tie.spec
-    slice-aggregate-has-word
-    slice-aggregate-has-word-2
-    has-word-requires
+    (λ c. search needs)
+    (λ c. search needs)
+    (λ c κs. search needs)
     returns
-    has-offset-requires
+    (λ c κs. search needs)
     offset-at-requires
     number-at-requires
     tied-at-requires

@@ -7,12 +7,6 @@ use borrow.Author.Needs.{needs}
 use Rattle.block_lines.proofs.offset.tied_at.Statement.{statement}
 use Rattle.block_lines.proofs.offset.tied_at.Tie as tie
 
-minutes-at-requires : tie.Need-minutes-at-requires
-minutes-at-requires c κs = search needs
-
-sign-agrees-requires : tie.Need-sign-agrees-requires
-sign-agrees-requires c κs = search needs
-
 returns : tie.Need-returns
 unfolding values
 returns c =
@@ -23,6 +17,6 @@ pub tied-at-spec : {M : Type 1} → statement M
 tied-at-spec =
     tie.close
     (tie.spec
-    minutes-at-requires
-    sign-agrees-requires
+    (λ c κs. search needs)
+    (λ c κs. search needs)
     returns)

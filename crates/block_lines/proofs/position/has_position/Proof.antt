@@ -15,30 +15,6 @@ returns : tie.Need-returns
 unfolding isClosed rowWidth
 returns c = too-short (getD positionLine 1 []) (c .before .before .args .s .now) refl (omega arith)
 
-slice-aggregate-text-at : tie.Need-slice-aggregate-text-at
-slice-aggregate-text-at c = search needs
-
-text-at-requires : tie.Need-text-at-requires
-text-at-requires c κs = search needs
-
-has-degrees-requires : tie.Need-has-degrees-requires
-has-degrees-requires c κs = search needs
-
-is-at-requires : tie.Need-is-at-requires
-is-at-requires c κs = search needs
-
-has-degrees-requires-2 : tie.Need-has-degrees-requires-2
-has-degrees-requires-2 c κs = search needs
-
-is-at-requires-2 : tie.Need-is-at-requires-2
-is-at-requires-2 c κs = search needs
-
-digits-at-requires : tie.Need-digits-at-requires
-digits-at-requires c κs = search needs
-
-is-at-requires-3 : tie.Need-is-at-requires-3
-is-at-requires-3 c κs = search needs
-
 returns-2 : tie.Need-returns-2
 unfolding shape
 returns-2 c = simp (c .is-at3 .ensures, c .before .digits-at .ensures, c .before .before .is-at2 .ensures, c .before .before .before .has-degrees2 .ensures, c .before .before .before .before .is-at .ensures, c .before .before .before .before .before .has-degrees .ensures, c .before .before .before .before .before .before .text-at .ensures, and-assoc, and-true)
@@ -48,12 +24,12 @@ has-position-spec =
     tie.close
     (tie.spec
     returns
-    slice-aggregate-text-at
-    text-at-requires
-    has-degrees-requires
-    is-at-requires
-    has-degrees-requires-2
-    is-at-requires-2
-    digits-at-requires
-    is-at-requires-3
+    (λ c. search needs)
+    (λ c κs. search needs)
+    (λ c κs. search needs)
+    (λ c κs. search needs)
+    (λ c κs. search needs)
+    (λ c κs. search needs)
+    (λ c κs. search needs)
+    (λ c κs. search needs)
     returns-2)

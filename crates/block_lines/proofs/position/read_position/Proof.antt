@@ -15,23 +15,11 @@ use borrow.Author.Needs.{needs}
 use Rattle.block_lines.proofs.position.read_position.Statement.{statement}
 use Rattle.block_lines.proofs.position.read_position.Tie as tie
 
-slice-aggregate-has-word : tie.Need-slice-aggregate-has-word
-slice-aggregate-has-word c = search needs
-
-slice-aggregate-has-word-2 : tie.Need-slice-aggregate-has-word-2
-slice-aggregate-has-word-2 c = search needs
-
-has-word-requires : tie.Need-has-word-requires
-has-word-requires c κs = search needs
-
 returns : tie.Need-returns
 unfolding positionFound layoutAt carriesOf has values rowWidth positionFrom signTied
 returns c =
     let h1 : shape (getD positionLine 0 []) 0 (c .before .before .before .before .before .args .s .now) ≡ true = (sym (c .before .has-word .ensures) ∙ c .if1 .taken) in
     simp h1
-
-has-position-requires : tie.Need-has-position-requires
-has-position-requires c κs = search needs
 
 position-at-requires : tie.Need-position-at-requires
 unfolding isClosed rowWidth
@@ -59,11 +47,11 @@ pub read-position-spec : {M : Type 1} → statement M
 read-position-spec =
     tie.close
     (tie.spec
-    slice-aggregate-has-word
-    slice-aggregate-has-word-2
-    has-word-requires
+    (λ c. search needs)
+    (λ c. search needs)
+    (λ c κs. search needs)
     returns
-    has-position-requires
+    (λ c κs. search needs)
     position-at-requires
     tied-at-requires
     returns-2

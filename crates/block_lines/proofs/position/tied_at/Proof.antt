@@ -6,18 +6,6 @@ use borrow.Author.Needs.{needs}
 use Rattle.block_lines.proofs.position.tied_at.Statement.{statement}
 use Rattle.block_lines.proofs.position.tied_at.Tie as tie
 
-degrees-at-requires : tie.Need-degrees-at-requires
-degrees-at-requires c κs = search needs
-
-sign-agrees-requires : tie.Need-sign-agrees-requires
-sign-agrees-requires c κs = search needs
-
-degrees-at-requires-2 : tie.Need-degrees-at-requires-2
-degrees-at-requires-2 c κs = search needs
-
-sign-agrees-requires-2 : tie.Need-sign-agrees-requires-2
-sign-agrees-requires-2 c κs = search needs
-
 returns : tie.Need-returns
 unfolding values
 returns c =
@@ -28,8 +16,8 @@ pub tied-at-spec : {M : Type 1} → statement M
 tied-at-spec =
     tie.close
     (tie.spec
-    degrees-at-requires
-    sign-agrees-requires
-    degrees-at-requires-2
-    sign-agrees-requires-2
+    (λ c κs. search needs)
+    (λ c κs. search needs)
+    (λ c κs. search needs)
+    (λ c κs. search needs)
     returns)

@@ -12,9 +12,6 @@ use borrow.Author.Needs.{needs}
 use Rattle.block_lines.proofs.time.read_time.Statement.{statement}
 use Rattle.block_lines.proofs.time.read_time.Tie as tie
 
-has-time-requires : tie.Need-has-time-requires
-has-time-requires c κs = search needs
-
 number-at-requires : tie.Need-number-at-requires
 unfolding isClosed rowWidth
 number-at-requires c κs = (omega (arith, in-reach (getD timeLine 0 []) 0 (c .before .before .before .args .s .now) refl (sym (c .before .has-time .ensures) ∙ c .if1 .taken)), search needs)
@@ -43,7 +40,7 @@ pub read-time-spec : {M : Type 1} → statement M
 read-time-spec =
     tie.close
     (tie.spec
-    has-time-requires
+    (λ c κs. search needs)
     number-at-requires
     number-at-requires-2
     number-at-requires-3

@@ -13,15 +13,6 @@ use borrow.Author.Needs.{needs}
 use Rattle.erlangen.proofs.reader.offset_at.Statement.{statement}
 use Rattle.erlangen.proofs.reader.offset_at.Tie as tie
 
-shared-slice-read-behind : tie.Need-shared-slice-read-behind
-shared-slice-read-behind c = search needs
-
-minutes-at-requires : tie.Need-minutes-at-requires
-minutes-at-requires c κs = search needs
-
-signed-number-requires : tie.Need-signed-number-requires
-signed-number-requires c κs = search needs
-
 returns : tie.Need-returns
 unfolding values offsetFrom
 returns c =
@@ -33,4 +24,4 @@ returns c =
 pub offset-at-spec : {M : Type 1} → statement M
 offset-at-spec =
     tie.close
-    (tie.spec shared-slice-read-behind minutes-at-requires signed-number-requires returns)
+    (tie.spec (λ c. search needs) (λ c κs. search needs) (λ c κs. search needs) returns)

@@ -12,18 +12,6 @@ use Rattle.erlangen.proofs.reader.read_whole.Tie as tie
 returns : tie.Need-returns
 returns c = sym (wrong-length erlangen _ (c .if1 .taken))
 
-has-shape-requires : tie.Need-has-shape-requires
-has-shape-requires c κs = search needs
-
-spelled-requires : tie.Need-spelled-requires
-spelled-requires c κs = search needs
-
-in-range-requires : tie.Need-in-range-requires
-in-range-requires c κs = search needs
-
-numbers-in-range-requires : tie.Need-numbers-in-range-requires
-numbers-in-range-requires c κs = search needs
-
 agrees-requires : tie.Need-agrees-requires
 agrees-requires c κs =
     let s = now (c .before .before .before .before .before .before .before .before .args .s) in
@@ -58,10 +46,10 @@ read-whole-spec =
     tie.close
     (tie.spec
     returns
-    has-shape-requires
-    spelled-requires
-    in-range-requires
-    numbers-in-range-requires
+    (λ c κs. search needs)
+    (λ c κs. search needs)
+    (λ c κs. search needs)
+    (λ c κs. search needs)
     agrees-requires
     returns-2
     returns-3

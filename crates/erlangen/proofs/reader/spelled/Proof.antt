@@ -9,39 +9,6 @@ use borrow.Author.Needs.{needs}
 use Rattle.erlangen.proofs.reader.spelled.Statement.{statement}
 use Rattle.erlangen.proofs.reader.spelled.Tie as tie
 
-number-at-requires : tie.Need-number-at-requires
-number-at-requires c κs = search needs
-
-number-at-requires-2 : tie.Need-number-at-requires-2
-number-at-requires-2 c κs = search needs
-
-number-at-requires-3 : tie.Need-number-at-requires-3
-number-at-requires-3 c κs = search needs
-
-date-at-requires : tie.Need-date-at-requires
-date-at-requires c κs = search needs
-
-flag-at-requires : tie.Need-flag-at-requires
-flag-at-requires c κs = search needs
-
-flag-at-requires-2 : tie.Need-flag-at-requires-2
-flag-at-requires-2 c κs = search needs
-
-flag-at-requires-3 : tie.Need-flag-at-requires-3
-flag-at-requires-3 c κs = search needs
-
-flag-at-requires-4 : tie.Need-flag-at-requires-4
-flag-at-requires-4 c κs = search needs
-
-flag-at-requires-5 : tie.Need-flag-at-requires-5
-flag-at-requires-5 c κs = search needs
-
-offset-at-requires : tie.Need-offset-at-requires
-offset-at-requires c κs = search needs
-
-position-at-requires : tie.Need-position-at-requires
-position-at-requires c κs = search needs
-
 returns : tie.Need-returns
 unfolding carriesOf has values fractionFrom channelFrom flagFrom
 returns c =
@@ -53,15 +20,15 @@ pub spelled-spec : {M : Type 1} → statement M
 spelled-spec =
     tie.close
     (tie.spec
-    number-at-requires
-    number-at-requires-2
-    number-at-requires-3
-    date-at-requires
-    flag-at-requires
-    flag-at-requires-2
-    flag-at-requires-3
-    flag-at-requires-4
-    flag-at-requires-5
-    offset-at-requires
-    position-at-requires
+    (λ c κs. search needs)
+    (λ c κs. search needs)
+    (λ c κs. search needs)
+    (λ c κs. search needs)
+    (λ c κs. search needs)
+    (λ c κs. search needs)
+    (λ c κs. search needs)
+    (λ c κs. search needs)
+    (λ c κs. search needs)
+    (λ c κs. search needs)
+    (λ c κs. search needs)
     returns)

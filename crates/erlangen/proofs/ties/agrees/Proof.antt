@@ -7,27 +7,6 @@ use borrow.Author.Needs.{needs}
 use Rattle.erlangen.proofs.ties.agrees.Statement.{statement}
 use Rattle.erlangen.proofs.ties.agrees.Tie as tie
 
-number-at-requires : tie.Need-number-at-requires
-number-at-requires c κs = search needs
-
-number-at-requires-2 : tie.Need-number-at-requires-2
-number-at-requires-2 c κs = search needs
-
-number-at-requires-3 : tie.Need-number-at-requires-3
-number-at-requires-3 c κs = search needs
-
-number-at-requires-4 : tie.Need-number-at-requires-4
-number-at-requires-4 c κs = search needs
-
-weekday-agrees-requires : tie.Need-weekday-agrees-requires
-weekday-agrees-requires c κs = search needs
-
-leap-agrees-requires : tie.Need-leap-agrees-requires
-leap-agrees-requires c κs = search needs
-
-signs-agree-requires : tie.Need-signs-agree-requires
-signs-agree-requires c κs = search needs
-
 returns : tie.Need-returns
 unfolding values
 returns c =
@@ -39,11 +18,11 @@ pub agrees-spec : {M : Type 1} → statement M
 agrees-spec =
     tie.close
     (tie.spec
-    number-at-requires
-    number-at-requires-2
-    number-at-requires-3
-    number-at-requires-4
-    weekday-agrees-requires
-    leap-agrees-requires
-    signs-agree-requires
+    (λ c κs. search needs)
+    (λ c κs. search needs)
+    (λ c κs. search needs)
+    (λ c κs. search needs)
+    (λ c κs. search needs)
+    (λ c κs. search needs)
+    (λ c κs. search needs)
     returns)

@@ -7,15 +7,6 @@ use borrow.Author.Needs.{needs}
 use Rattle.erlangen.proofs.ties.leap_agrees.Statement.{statement}
 use Rattle.erlangen.proofs.ties.leap_agrees.Tie as tie
 
-number-at-requires : tie.Need-number-at-requires
-number-at-requires c κs = search needs
-
-is-at-requires : tie.Need-is-at-requires
-is-at-requires c κs = search needs
-
-is-at-requires-2 : tie.Need-is-at-requires-2
-is-at-requires-2 c κs = search needs
-
 returns : tie.Need-returns
 unfolding values
 returns c = c .is-at .ensures ∙ sym (leap-letter (now (c .before .before .before .before .args .s)) (c .before .before .before .before .pre) (sym (c .before .before .number-at .ensures .0) ∙ c .before .if1 .taken))
@@ -26,4 +17,4 @@ returns-2 c = c .is-at2 .ensures ∙ sym (plain-letter (now (c .before .before .
 
 pub leap-agrees-spec : {M : Type 1} → statement M
 leap-agrees-spec =
-    tie.close (tie.spec number-at-requires is-at-requires is-at-requires-2 returns returns-2)
+    tie.close (tie.spec (λ c κs. search needs) (λ c κs. search needs) (λ c κs. search needs) returns returns-2)

@@ -7,24 +7,6 @@ use borrow.Author.Needs.{needs}
 use Rattle.erlangen.proofs.ties.signs_agree.Statement.{statement}
 use Rattle.erlangen.proofs.ties.signs_agree.Tie as tie
 
-minutes-at-requires : tie.Need-minutes-at-requires
-minutes-at-requires c κs = search needs
-
-sign-agrees-requires : tie.Need-sign-agrees-requires
-sign-agrees-requires c κs = search needs
-
-degrees-at-requires : tie.Need-degrees-at-requires
-degrees-at-requires c κs = search needs
-
-sign-agrees-requires-2 : tie.Need-sign-agrees-requires-2
-sign-agrees-requires-2 c κs = search needs
-
-degrees-at-requires-2 : tie.Need-degrees-at-requires-2
-degrees-at-requires-2 c κs = search needs
-
-sign-agrees-requires-3 : tie.Need-sign-agrees-requires-3
-sign-agrees-requires-3 c κs = search needs
-
 returns : tie.Need-returns
 unfolding values
 returns c =
@@ -35,10 +17,10 @@ pub signs-agree-spec : {M : Type 1} → statement M
 signs-agree-spec =
     tie.close
     (tie.spec
-    minutes-at-requires
-    sign-agrees-requires
-    degrees-at-requires
-    sign-agrees-requires-2
-    degrees-at-requires-2
-    sign-agrees-requires-3
+    (λ c κs. search needs)
+    (λ c κs. search needs)
+    (λ c κs. search needs)
+    (λ c κs. search needs)
+    (λ c κs. search needs)
+    (λ c κs. search needs)
     returns)

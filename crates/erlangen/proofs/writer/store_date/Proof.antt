@@ -4,41 +4,8 @@ use borrow.Author.Needs.{needs}
 use Rattle.erlangen.proofs.writer.store_date.Statement.{statement}
 use Rattle.erlangen.proofs.writer.store_date.Tie as tie
 
-year-of-requires : tie.Need-year-of-requires
-year-of-requires c κs = search needs
-
-month-of-requires : tie.Need-month-of-requires
-month-of-requires c κs = search needs
-
-day-of-requires : tie.Need-day-of-requires
-day-of-requires c κs = search needs
-
 weekday-of-requires : tie.Need-weekday-of-requires
 weekday-of-requires c κs = simp (c .day-of .ensures, c .before .month-of .ensures, c .before .before .year-of .ensures) (c .before .before .before .before .pre .1)
-
-put-byte-requires : tie.Need-put-byte-requires
-put-byte-requires c κs = search needs
-
-put-pairs-requires : tie.Need-put-pairs-requires
-put-pairs-requires c κs = search needs
-
-slice-aggregate-put-bytes : tie.Need-slice-aggregate-put-bytes
-slice-aggregate-put-bytes c = search needs
-
-put-bytes-requires : tie.Need-put-bytes-requires
-put-bytes-requires c κs = search needs
-
-put-digits-requires : tie.Need-put-digits-requires
-put-digits-requires c κs = search needs
-
-slice-aggregate-put-bytes-2 : tie.Need-slice-aggregate-put-bytes-2
-slice-aggregate-put-bytes-2 c = search needs
-
-put-bytes-requires-2 : tie.Need-put-bytes-requires-2
-put-bytes-requires-2 c κs = search needs
-
-same-length : tie.Need-same-length
-same-length c = search needs
 
 returns : tie.Need-returns
 unfolding stores
@@ -48,16 +15,16 @@ pub store-date-spec : {M : Type 1} → statement M
 store-date-spec =
     tie.close
     (tie.spec
-    year-of-requires
-    month-of-requires
-    day-of-requires
+    (λ c κs. search needs)
+    (λ c κs. search needs)
+    (λ c κs. search needs)
     weekday-of-requires
-    put-byte-requires
-    put-pairs-requires
-    slice-aggregate-put-bytes
-    put-bytes-requires
-    put-digits-requires
-    slice-aggregate-put-bytes-2
-    put-bytes-requires-2
-    same-length
+    (λ c κs. search needs)
+    (λ c κs. search needs)
+    (λ c. search needs)
+    (λ c κs. search needs)
+    (λ c κs. search needs)
+    (λ c. search needs)
+    (λ c κs. search needs)
+    (λ c. search needs)
     returns)

@@ -6,18 +6,6 @@ use borrow.Author.Needs.{needs}
 use Rattle.erlangen.proofs.writer.store_position.Statement.{statement}
 use Rattle.erlangen.proofs.writer.store_position.Tie as tie
 
-store-latitude-requires : tie.Need-store-latitude-requires
-store-latitude-requires c κs = search needs
-
-store-longitude-requires : tie.Need-store-longitude-requires
-store-longitude-requires c κs = search needs
-
-store-altitude-requires : tie.Need-store-altitude-requires
-store-altitude-requires c κs = search needs
-
-same-length : tie.Need-same-length
-same-length c = search needs
-
 returns : tie.Need-returns
 returns c =
     let a = c .before .before .before .before .before .before .before .before .before .before .before .before .before .args in
@@ -27,8 +15,8 @@ pub store-position-spec : {M : Type 1} → statement M
 store-position-spec =
     tie.close
     (tie.spec
-    store-latitude-requires
-    store-longitude-requires
-    store-altitude-requires
-    same-length
+    (λ c κs. search needs)
+    (λ c κs. search needs)
+    (λ c κs. search needs)
+    (λ c. search needs)
     returns)

@@ -6,15 +6,6 @@ use borrow.Author.Needs.{needs}
 use Rattle.erlangen.proofs.writer.weekday_of.Statement.{statement}
 use Rattle.erlangen.proofs.writer.weekday_of.Tie as tie
 
-weekday-requires : tie.Need-weekday-requires
-weekday-requires c κs = search needs
-
-enum-known-told : tie.Need-enum-known-told
-enum-known-told c = search needs
-
-enum-told : tie.Need-enum-told
-enum-told c = search needs
-
 returns : tie.Need-returns
 returns c =
     let a = c .before .before .before .before .args in
@@ -27,4 +18,4 @@ returns-2 c =
     none-of (isDate (a .year) (a .month) (a .day)) (weekdayOf (a .year) (a .month) (a .day)) (c .before .before .before .pre) (sym (c .before .before .weekday .ensures) ∙ c .enum-told .given .1)
 
 pub weekday-of-spec : {M : Type 1} → statement M
-weekday-of-spec = tie.close (tie.spec weekday-requires enum-known-told enum-told returns returns-2)
+weekday-of-spec = tie.close (tie.spec (λ c κs. search needs) (λ c. search needs) (λ c. search needs) returns returns-2)

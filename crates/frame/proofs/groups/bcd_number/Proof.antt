@@ -9,15 +9,6 @@ use borrow.Author.Needs.{needs}
 use Rattle.frame.proofs.groups.bcd_number.Statement.{statement}
 use Rattle.frame.proofs.groups.bcd_number.Tie as tie
 
-number-at-requires : tie.Need-number-at-requires
-number-at-requires c κs = search needs
-
-add-number-at : tie.Need-add-number-at
-add-number-at c = search needs
-
-number-at-requires-2 : tie.Need-number-at-requires-2
-number-at-requires-2 c κs = search needs
-
 mul-result : tie.Need-mul-result
 mul-result c = omega (arith, ltb-true (c .before .number-at2 .result) 10 (both (ltb (c .before .before .number-at .result) 10) _ (c .if1 .taken) .1))
 
@@ -38,9 +29,9 @@ pub bcd-number-spec : {M : Type 1} → statement M
 bcd-number-spec =
     tie.close
     (tie.spec
-    number-at-requires
-    add-number-at
-    number-at-requires-2
+    (λ c κs. search needs)
+    (λ c. search needs)
+    (λ c κs. search needs)
     mul-result
     add-result
     returns

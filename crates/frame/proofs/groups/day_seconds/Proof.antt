@@ -5,18 +5,6 @@ use borrow.Author.Needs.{needs}
 use Rattle.frame.proofs.groups.day_seconds.Statement.{statement}
 use Rattle.frame.proofs.groups.day_seconds.Tie as tie
 
-number-at-requires : tie.Need-number-at-requires
-number-at-requires c κs = search needs
-
-number-at-requires-2 : tie.Need-number-at-requires-2
-number-at-requires-2 c κs = search needs
-
-mul-result : tie.Need-mul-result
-mul-result c = search needs
-
-add-result : tie.Need-add-result
-add-result c = search needs
-
 returns : tie.Need-returns
 returns c =
     seconds-told (now (c .before .before .before .before .args .s)) _ _ (c .before .before .number-at .ensures .0) (c .before .number-at2 .ensures .0) (c .if1 .taken)
@@ -28,4 +16,4 @@ returns-2 c =
 pub day-seconds-spec : {M : Type 1} → statement M
 day-seconds-spec =
     tie.close
-    (tie.spec number-at-requires number-at-requires-2 mul-result add-result returns returns-2)
+    (tie.spec (λ c κs. search needs) (λ c κs. search needs) (λ c. search needs) (λ c. search needs) returns returns-2)

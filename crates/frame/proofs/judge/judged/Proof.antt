@@ -6,15 +6,6 @@ use borrow.Author.Needs.{needs}
 use Rattle.frame.proofs.judge.judged.Statement.{statement}
 use Rattle.frame.proofs.judge.judged.Tie as tie
 
-spelled-requires : tie.Need-spelled-requires
-spelled-requires c κs = search needs
-
-in-range-requires : tie.Need-in-range-requires
-in-range-requires c κs = search needs
-
-numbers-in-range-requires : tie.Need-numbers-in-range-requires
-numbers-in-range-requires c κs = search needs
-
 parts-agree-requires : tie.Need-parts-agree-requires
 parts-agree-requires c κs =
     let b = c .before .before .before in
@@ -48,9 +39,9 @@ pub judged-spec : {M : Type 1} → statement M
 judged-spec =
     tie.close
     (tie.spec
-    spelled-requires
-    in-range-requires
-    numbers-in-range-requires
+    (λ c κs. search needs)
+    (λ c κs. search needs)
+    (λ c κs. search needs)
     parts-agree-requires
     returns
     returns-2

@@ -5,15 +5,6 @@ use borrow.Author.Needs.{needs}
 use Rattle.frame.proofs.judge.parts_agree.Statement.{statement}
 use Rattle.frame.proofs.judge.parts_agree.Tie as tie
 
-day-seconds-requires : tie.Need-day-seconds-requires
-day-seconds-requires c κs = search needs
-
-seconds-of-day-requires : tie.Need-seconds-of-day-requires
-seconds-of-day-requires c κs = search needs
-
-offset-minutes-requires : tie.Need-offset-minutes-requires
-offset-minutes-requires c κs = search needs
-
 returns : tie.Need-returns
 unfolding signTied
 returns c =
@@ -22,4 +13,4 @@ returns c =
 pub parts-agree-spec : {M : Type 1} → statement M
 parts-agree-spec =
     tie.close
-    (tie.spec day-seconds-requires seconds-of-day-requires offset-minutes-requires returns)
+    (tie.spec (λ c κs. search needs) (λ c κs. search needs) (λ c κs. search needs) returns)

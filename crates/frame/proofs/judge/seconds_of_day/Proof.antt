@@ -17,8 +17,5 @@ add-result c = omega (arith, time-lt (c .before .before .args .r) (c .before .be
 add-result-2 : tie.Need-add-result-2
 add-result-2 c = omega (arith, time-lt (c .before .before .before .args .r) (c .before .before .before .pre))
 
-returns : tie.Need-returns
-returns c = search needs
-
 pub seconds-of-day-spec : {M : Type 1} → statement M
-seconds-of-day-spec = tie.close (tie.spec mul-result mul-result-2 add-result add-result-2 returns)
+seconds-of-day-spec = tie.close (tie.spec mul-result mul-result-2 add-result add-result-2 (λ c. search needs))

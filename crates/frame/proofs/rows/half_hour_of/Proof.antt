@@ -4,9 +4,6 @@ use borrow.Author.Needs.{needs}
 use Rattle.frame.proofs.rows.half_hour_of.Statement.{statement}
 use Rattle.frame.proofs.rows.half_hour_of.Tie as tie
 
-minutes-of-requires : tie.Need-minutes-of-requires
-minutes-of-requires c κs = search needs
-
 returns : tie.Need-returns
 returns c = no-half _ _ (c .before .minutes-of .ensures) (c .if1 .taken)
 
@@ -17,4 +14,4 @@ returns-3 : tie.Need-returns-3
 returns-3 c = other-half _ _ (c .before .before .minutes-of .ensures) (c .before .if1 .left) (c .if2 .left)
 
 pub half-hour-of-spec : {M : Type 1} → statement M
-half-hour-of-spec = tie.close (tie.spec minutes-of-requires returns returns-2 returns-3)
+half-hour-of-spec = tie.close (tie.spec (λ c κs. search needs) returns returns-2 returns-3)

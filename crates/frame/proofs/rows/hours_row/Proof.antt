@@ -4,12 +4,9 @@ use borrow.Author.Needs.{needs}
 use Rattle.frame.proofs.rows.hours_row.Statement.{statement}
 use Rattle.frame.proofs.rows.hours_row.Tie as tie
 
-bcd-row-requires : tie.Need-bcd-row-requires
-bcd-row-requires c κs = search needs
-
 returns : tie.Need-returns
 unfolding bitsOf groupsOf
 returns c = c .bcd-row .ensures
 
 pub hours-row-spec : {M : Type 1} → statement M
-hours-row-spec = tie.close (tie.spec bcd-row-requires returns)
+hours-row-spec = tie.close (tie.spec (λ c κs. search needs) returns)

@@ -8,42 +8,6 @@ use Rattle.frame.proofs.rows.rows_of.Tie as tie
 ordinal-of-requires : tie.Need-ordinal-of-requires
 ordinal-of-requires c κs = date-in (c .args .r) (c .pre)
 
-seconds-of-day-requires : tie.Need-seconds-of-day-requires
-seconds-of-day-requires c κs = search needs
-
-seconds-row-requires : tie.Need-seconds-row-requires
-seconds-row-requires c κs = search needs
-
-minutes-row-requires : tie.Need-minutes-row-requires
-minutes-row-requires c κs = search needs
-
-hours-row-requires : tie.Need-hours-row-requires
-hours-row-requires c κs = search needs
-
-digits-row-requires : tie.Need-digits-row-requires
-digits-row-requires c κs = search needs
-
-hundreds-row-requires : tie.Need-hundreds-row-requires
-hundreds-row-requires c κs = search needs
-
-year-of-requires : tie.Need-year-of-requires
-year-of-requires c κs = search needs
-
-digits-row-requires-2 : tie.Need-digits-row-requires-2
-digits-row-requires-2 c κs = search needs
-
-flags-of-requires : tie.Need-flags-of-requires
-flags-of-requires c κs = search needs
-
-quality-of-requires : tie.Need-quality-of-requires
-quality-of-requires c κs = search needs
-
-low-row-requires : tie.Need-low-row-requires
-low-row-requires c κs = search needs
-
-high-row-requires : tie.Need-high-row-requires
-high-row-requires c κs = search needs
-
 returns : tie.Need-returns
 unfolding tenRows
 returns c =
@@ -56,16 +20,16 @@ rows-of-spec =
     tie.close
     (tie.spec
     ordinal-of-requires
-    seconds-of-day-requires
-    seconds-row-requires
-    minutes-row-requires
-    hours-row-requires
-    digits-row-requires
-    hundreds-row-requires
-    year-of-requires
-    digits-row-requires-2
-    flags-of-requires
-    quality-of-requires
-    low-row-requires
-    high-row-requires
+    (λ c κs. search needs)
+    (λ c κs. search needs)
+    (λ c κs. search needs)
+    (λ c κs. search needs)
+    (λ c κs. search needs)
+    (λ c κs. search needs)
+    (λ c κs. search needs)
+    (λ c κs. search needs)
+    (λ c κs. search needs)
+    (λ c κs. search needs)
+    (λ c κs. search needs)
+    (λ c κs. search needs)
     returns)

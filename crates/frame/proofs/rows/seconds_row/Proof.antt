@@ -4,12 +4,9 @@ use borrow.Author.Needs.{needs}
 use Rattle.frame.proofs.rows.seconds_row.Statement.{statement}
 use Rattle.frame.proofs.rows.seconds_row.Tie as tie
 
-bcd-row-requires : tie.Need-bcd-row-requires
-bcd-row-requires c κs = search needs
-
 returns : tie.Need-returns
 unfolding bitsOf groupsOf
 returns c = c .bcd-row .ensures
 
 pub seconds-row-spec : {M : Type 1} → statement M
-seconds-row-spec = tie.close (tie.spec bcd-row-requires returns)
+seconds-row-spec = tie.close (tie.spec (λ c κs. search needs) returns)

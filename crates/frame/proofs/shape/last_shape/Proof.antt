@@ -6,30 +6,6 @@ use borrow.Author.Needs.{needs}
 use Rattle.frame.proofs.shape.last_shape.Statement.{statement}
 use Rattle.frame.proofs.shape.last_shape.Tie as tie
 
-letter-at-requires : tie.Need-letter-at-requires
-letter-at-requires c κs = search needs
-
-bits-at-requires : tie.Need-bits-at-requires
-bits-at-requires c κs = search needs
-
-slice-aggregate-text-at : tie.Need-slice-aggregate-text-at
-slice-aggregate-text-at c = search needs
-
-text-at-requires : tie.Need-text-at-requires
-text-at-requires c κs = search needs
-
-is-at-requires : tie.Need-is-at-requires
-is-at-requires c κs = search needs
-
-pair-at-requires : tie.Need-pair-at-requires
-pair-at-requires c κs = search needs
-
-is-at-requires-2 : tie.Need-is-at-requires-2
-is-at-requires-2 c κs = search needs
-
-is-at-requires-3 : tie.Need-is-at-requires-3
-is-at-requires-3 c κs = search needs
-
 returns : tie.Need-returns
 returns c =
     let b = c .before .before .before .before in
@@ -40,12 +16,12 @@ pub last-shape-spec : {M : Type 1} → statement M
 last-shape-spec =
     tie.close
     (tie.spec
-    letter-at-requires
-    bits-at-requires
-    slice-aggregate-text-at
-    text-at-requires
-    is-at-requires
-    pair-at-requires
-    is-at-requires-2
-    is-at-requires-3
+    (λ c κs. search needs)
+    (λ c κs. search needs)
+    (λ c. search needs)
+    (λ c κs. search needs)
+    (λ c κs. search needs)
+    (λ c κs. search needs)
+    (λ c κs. search needs)
+    (λ c κs. search needs)
     returns)

@@ -6,15 +6,9 @@ use borrow.Author.Needs.{needs}
 use Rattle.frame.proofs.shape.zone_shape.Statement.{statement}
 use Rattle.frame.proofs.shape.zone_shape.Tie as tie
 
-bits-at-requires : tie.Need-bits-at-requires
-bits-at-requires c κs = search needs
-
-is-at-requires : tie.Need-is-at-requires
-is-at-requires c κs = search needs
-
 returns : tie.Need-returns
 returns c =
     simp (c .before .bits-at .ensures, c .is-at .ensures) (sym (zone-shape (now (c .before .before .before .args .s))))
 
 pub zone-shape-spec : {M : Type 1} → statement M
-zone-shape-spec = tie.close (tie.spec bits-at-requires is-at-requires returns)
+zone-shape-spec = tie.close (tie.spec (λ c κs. search needs) (λ c κs. search needs) returns)

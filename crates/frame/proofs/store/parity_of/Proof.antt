@@ -26,9 +26,6 @@ mul-row-ones c = omega arith
 array-copy-out-row-ones : tie.Need-array-copy-out-row-ones Inv-loop μ-loop
 array-copy-out-row-ones c = omega arith
 
-row-ones-requires : tie.Need-row-ones-requires Inv-loop μ-loop
-row-ones-requires c κs = search needs
-
 add-n : tie.Need-add-n Inv-loop μ-loop
 add-n c = omega (arith, c .row-ones .ensures .1)
 
@@ -66,7 +63,7 @@ parity-of-spec =
     loop-holds
     mul-row-ones
     array-copy-out-row-ones
-    row-ones-requires
+    (λ c κs. search needs)
     add-n
     add-i
     loop-less

@@ -7,16 +7,10 @@ use borrow.Author.Needs.{needs}
 use Rattle.frame.proofs.store.row_ones.Statement.{statement}
 use Rattle.frame.proofs.store.row_ones.Tie as tie
 
-slice-aggregate-count-ones : tie.Need-slice-aggregate-count-ones
-slice-aggregate-count-ones c = search needs
-
-count-ones-requires : tie.Need-count-ones-requires
-count-ones-requires c κs = search needs
-
 returns : tie.Need-returns
 returns c =
     let l : length (c .before .before .args .t1) ≡ 10 = search needs in
     (c .count-ones .ensures, omega (arith, c .count-ones .ensures, ones-le (c .before .before .args .t1)))
 
 pub row-ones-spec : {M : Type 1} → statement M
-row-ones-spec = tie.close (tie.spec slice-aggregate-count-ones count-ones-requires returns)
+row-ones-spec = tie.close (tie.spec (λ c. search needs) (λ c κs. search needs) returns)

@@ -7,12 +7,6 @@ use borrow.Author.Needs.{needs}
 use Rattle.frame.proofs.told.half_hour.Statement.{statement}
 use Rattle.frame.proofs.told.half_hour.Tie as tie
 
-is-at-requires : tie.Need-is-at-requires
-is-at-requires c κs = search needs
-
-is-at-requires-2 : tie.Need-is-at-requires-2
-is-at-requires-2 c κs = search needs
-
 returns : tie.Need-returns
 returns c = (half-none (now (c .before .before .before .args .s)) (sym (c .before .is-at .ensures) ∙ c .if1 .taken), omega arith)
 
@@ -23,4 +17,4 @@ returns-3 : tie.Need-returns-3
 returns-3 c = (half-neither (now (c .before .before .before .before .before .args .s)) (sym (c .before .before .before .is-at .ensures) ∙ c .before .before .if1 .left) (sym (c .before .is-at2 .ensures) ∙ c .if2 .left), omega arith)
 
 pub half-hour-spec : {M : Type 1} → statement M
-half-hour-spec = tie.close (tie.spec is-at-requires is-at-requires-2 returns returns-2 returns-3)
+half-hour-spec = tie.close (tie.spec (λ c κs. search needs) (λ c κs. search needs) returns returns-2 returns-3)

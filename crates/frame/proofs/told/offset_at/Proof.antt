@@ -12,12 +12,6 @@ use borrow.Author.Needs.{needs}
 use Rattle.frame.proofs.told.offset_at.Statement.{statement}
 use Rattle.frame.proofs.told.offset_at.Tie as tie
 
-offset-minutes-requires : tie.Need-offset-minutes-requires
-offset-minutes-requires c κs = search needs
-
-signed-number-requires : tie.Need-signed-number-requires
-signed-number-requires c κs = search needs
-
 returns : tie.Need-returns
 unfolding offsetFrom
 returns c =
@@ -25,4 +19,4 @@ returns c =
     ap offsetIs.Minutes (toZ-ofZ fits ∙ c .signed-number .ensures ∙ ap (λ (b : Bool). signed b (c .before .offset-minutes .result)) (sign-test (c .before .before .before .args .minus)) ∙ ap (signed (negative (c .before .before .before .args .minus))) (c .before .offset-minutes .ensures .0))
 
 pub offset-at-spec : {M : Type 1} → statement M
-offset-at-spec = tie.close (tie.spec offset-minutes-requires signed-number-requires returns)
+offset-at-spec = tie.close (tie.spec (λ c κs. search needs) (λ c κs. search needs) returns)

@@ -7,33 +7,6 @@ use borrow.Author.Needs.{needs}
 use Rattle.frame.proofs.told.spelled.Statement.{statement}
 use Rattle.frame.proofs.told.spelled.Tie as tie
 
-bcd-number-requires : tie.Need-bcd-number-requires
-bcd-number-requires c κs = search needs
-
-bcd-number-requires-2 : tie.Need-bcd-number-requires-2
-bcd-number-requires-2 c κs = search needs
-
-bcd-number-requires-3 : tie.Need-bcd-number-requires-3
-bcd-number-requires-3 c κs = search needs
-
-date-at-requires : tie.Need-date-at-requires
-date-at-requires c κs = search needs
-
-sync-at-requires : tie.Need-sync-at-requires
-sync-at-requires c κs = search needs
-
-flag-at-requires : tie.Need-flag-at-requires
-flag-at-requires c κs = search needs
-
-offset-at-requires : tie.Need-offset-at-requires
-offset-at-requires c κs = search needs
-
-flag-at-requires-2 : tie.Need-flag-at-requires-2
-flag-at-requires-2 c κs = search needs
-
-flag-at-requires-3 : tie.Need-flag-at-requires-3
-flag-at-requires-3 c κs = search needs
-
 returns : tie.Need-returns
 returns c =
     let b = c .before .before .before .before .before .before in
@@ -50,13 +23,13 @@ pub spelled-spec : {M : Type 1} → statement M
 spelled-spec =
     tie.close
     (tie.spec
-    bcd-number-requires
-    bcd-number-requires-2
-    bcd-number-requires-3
-    date-at-requires
-    sync-at-requires
-    flag-at-requires
-    offset-at-requires
-    flag-at-requires-2
-    flag-at-requires-3
+    (λ c κs. search needs)
+    (λ c κs. search needs)
+    (λ c κs. search needs)
+    (λ c κs. search needs)
+    (λ c κs. search needs)
+    (λ c κs. search needs)
+    (λ c κs. search needs)
+    (λ c κs. search needs)
+    (λ c κs. search needs)
     returns)

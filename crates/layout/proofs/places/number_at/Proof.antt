@@ -5,21 +5,6 @@ use Rattle.layout.proofs.Part.{part, part-length}
 use Rattle.layout.proofs.places.number_at.Statement.{statement}
 use Rattle.layout.proofs.places.number_at.Tie as tie
 
-add-end : tie.Need-add-end
-add-end c = search needs
-
-sub-number : tie.Need-sub-number
-sub-number c = search needs
-
-part-number-start : tie.Need-part-number-start
-part-number-start c = search needs
-
-part-number-end : tie.Need-part-number-end
-part-number-end c = search needs
-
-number-requires : tie.Need-number-requires
-number-requires c κs = search needs
-
 returns : tie.Need-returns
 returns c =
     let a = c .before .before .before .args in
@@ -28,4 +13,4 @@ returns c =
 pub number-at-spec : {M : Type 1} → statement M
 number-at-spec =
     tie.close
-    (tie.spec add-end sub-number part-number-start part-number-end number-requires returns)
+    (tie.spec (λ c. search needs) (λ c. search needs) (λ c. search needs) (λ c. search needs) (λ c κs. search needs) returns)

@@ -5,21 +5,6 @@ use borrow.Author.Needs.{needs}
 use Rattle.layout.proofs.places.padded_at.Statement.{statement}
 use Rattle.layout.proofs.places.padded_at.Tie as tie
 
-add-end : tie.Need-add-end
-add-end c = search needs
-
-sub-are-padded : tie.Need-sub-are-padded
-sub-are-padded c = search needs
-
-part-are-padded-start : tie.Need-part-are-padded-start
-part-are-padded-start c = search needs
-
-part-are-padded-end : tie.Need-part-are-padded-end
-part-are-padded-end c = search needs
-
-are-padded-requires : tie.Need-are-padded-requires
-are-padded-requires c κs = search needs
-
 returns : tie.Need-returns
 returns c =
     let a = c .before .before .before .args in
@@ -29,9 +14,9 @@ pub padded-at-spec : {M : Type 1} → statement M
 padded-at-spec =
     tie.close
     (tie.spec
-    add-end
-    sub-are-padded
-    part-are-padded-start
-    part-are-padded-end
-    are-padded-requires
+    (λ c. search needs)
+    (λ c. search needs)
+    (λ c. search needs)
+    (λ c. search needs)
+    (λ c κs. search needs)
     returns)

@@ -6,15 +6,6 @@ use borrow.Author.Needs.{needs}
 use Rattle.layout.proofs.ties.weekday_agrees.Statement.{statement}
 use Rattle.layout.proofs.ties.weekday_agrees.Tie as tie
 
-weekday-requires : tie.Need-weekday-requires
-weekday-requires c κs = search needs
-
-enum-known-told : tie.Need-enum-known-told
-enum-known-told c = search needs
-
-enum-told : tie.Need-enum-told
-enum-told c = search needs
-
 returns : tie.Need-returns
 returns c =
     let a = c .before .before .before .before .args in
@@ -28,4 +19,4 @@ returns-2 c =
 
 pub weekday-agrees-spec : {M : Type 1} → statement M
 weekday-agrees-spec =
-    tie.close (tie.spec weekday-requires enum-known-told enum-told returns returns-2)
+    tie.close (tie.spec (λ c κs. search needs) (λ c. search needs) (λ c. search needs) returns returns-2)

@@ -9,24 +9,6 @@ use borrow.Author.Needs.{needs}
 use Rattle.layout.proofs.ties.weekday_of.Statement.{statement}
 use Rattle.layout.proofs.ties.weekday_of.Tie as tie
 
-year-of-requires : tie.Need-year-of-requires
-year-of-requires c κs = search needs
-
-month-of-requires : tie.Need-month-of-requires
-month-of-requires c κs = search needs
-
-day-of-requires : tie.Need-day-of-requires
-day-of-requires c κs = search needs
-
-weekday-requires : tie.Need-weekday-requires
-weekday-requires c κs = search needs
-
-enum-known-told : tie.Need-enum-known-told
-enum-known-told c = search needs
-
-enum-told : tie.Need-enum-told
-enum-told c = search needs
-
 returns : tie.Need-returns
 returns c =
     let d = c .before .before .before .before .before .before .before .args .date in
@@ -43,11 +25,11 @@ pub weekday-of-spec : {M : Type 1} → statement M
 weekday-of-spec =
     tie.close
     (tie.spec
-    year-of-requires
-    month-of-requires
-    day-of-requires
-    weekday-requires
-    enum-known-told
-    enum-told
+    (λ c κs. search needs)
+    (λ c κs. search needs)
+    (λ c κs. search needs)
+    (λ c κs. search needs)
+    (λ c. search needs)
+    (λ c. search needs)
     returns
     returns-2)

@@ -11,24 +11,6 @@ returns c =
     let a = c .before .before .before .args in
     no-room (a .form) (now (a .bytes)) (a .start) (now (a .place)) (now (a .row)) (c .if1 .taken)
 
-search-requires : tie.Need-search-requires
-search-requires c κs = search needs
-
-place-requires : tie.Need-place-requires
-place-requires c κs = search needs
-
-record-requires : tie.Need-record-requires
-record-requires c κs = search needs
-
-put-record-requires : tie.Need-put-record-requires
-put-record-requires c κs = search needs
-
-number-requires : tie.Need-number-requires
-number-requires c κs = search needs
-
-same-length : tie.Need-same-length
-same-length c = search needs
-
 returns-2 : tie.Need-returns-2
 returns-2 c =
     let a = c .before .before .before .before .before .before .before .before .before .before .before .args in
@@ -40,10 +22,10 @@ lindenscoop-search-spec =
     tie.close
     (tie.spec
     returns
-    search-requires
-    place-requires
-    record-requires
-    put-record-requires
-    number-requires
-    same-length
+    (λ c κs. search needs)
+    (λ c κs. search needs)
+    (λ c κs. search needs)
+    (λ c κs. search needs)
+    (λ c κs. search needs)
+    (λ c. search needs)
     returns-2)

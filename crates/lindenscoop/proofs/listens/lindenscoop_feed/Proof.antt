@@ -18,29 +18,11 @@ returns-2 c =
     let a = c .before .before .before .before .args in
     fed-short (now (a .state)) (a .byte) (now (a .row)) (record-short (now (a .state)) (now (a .row)) (c .before .if1 .left) (c .if2 .taken))
 
-listener-of-requires : tie.Need-listener-of-requires
-listener-of-requires c κs = search needs
-
-feed-requires : tie.Need-feed-requires
-feed-requires c κs = search needs
-
 put-state-requires : tie.Need-put-state-requires
 put-state-requires c κs =
     let a = c .before .before .before .before .before .before .before .before .before .args in
     let next = c .before .before .feed .ensures .next ∙ ap (λ l. nextOf l (a .byte)) (c .before .before .before .listener-of .ensures) in
     (c .before .before .before .before .before .before .if1 .left, rw next (next-fits _ (a .byte) (of-bytes (now (a .state)) (c .before .before .before .before .before .before .before .before .slice-known .given))))
-
-put-heard-requires : tie.Need-put-heard-requires
-put-heard-requires c κs = search needs
-
-heard-number-requires : tie.Need-heard-number-requires
-heard-number-requires c κs = search needs
-
-same-length : tie.Need-same-length
-same-length c = search needs
-
-same-length-2 : tie.Need-same-length-2
-same-length-2 c = search needs
 
 returns-3 : tie.Need-returns-3
 returns-3 c =
@@ -54,11 +36,11 @@ lindenscoop-feed-spec =
     (tie.spec
     returns
     returns-2
-    listener-of-requires
-    feed-requires
+    (λ c κs. search needs)
+    (λ c κs. search needs)
     put-state-requires
-    put-heard-requires
-    heard-number-requires
-    same-length
-    same-length-2
+    (λ c κs. search needs)
+    (λ c κs. search needs)
+    (λ c. search needs)
+    (λ c. search needs)
     returns-3)

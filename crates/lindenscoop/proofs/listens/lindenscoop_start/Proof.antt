@@ -11,17 +11,8 @@ returns c =
     let a = c .before .before .args in
     no-state (a .form) (now (a .state)) (c .if1 .taken)
 
-new-requires : tie.Need-new-requires
-new-requires c κs = search needs
-
 put-state-requires : tie.Need-put-state-requires
 put-state-requires c κs = (c .before .before .before .if1 .left, rw (c .before .before .new .ensures) (start-fits (c .before .before .before .before .before .args .form)))
-
-number-requires : tie.Need-number-requires
-number-requires c κs = search needs
-
-same-length : tie.Need-same-length
-same-length c = search needs
 
 returns-2 : tie.Need-returns-2
 returns-2 c =
@@ -31,4 +22,4 @@ returns-2 c =
 pub lindenscoop-start-spec : {M : Type 1} → statement M
 lindenscoop-start-spec =
     tie.close
-    (tie.spec returns new-requires put-state-requires number-requires same-length returns-2)
+    (tie.spec returns (λ c κs. search needs) put-state-requires (λ c κs. search needs) (λ c. search needs) returns-2)

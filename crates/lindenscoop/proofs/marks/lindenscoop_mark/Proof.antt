@@ -11,15 +11,6 @@ use Rattle.listener.specs.Marks.{marksOf}
 use Rattle.lindenscoop.proofs.marks.lindenscoop_mark.Statement.{statement}
 use Rattle.lindenscoop.proofs.marks.lindenscoop_mark.Tie as tie
 
-mark-requires : tie.Need-mark-requires
-mark-requires c κs = search needs
-
-number-requires : tie.Need-number-requires
-number-requires c κs = search needs
-
-same-length : tie.Need-same-length
-same-length c = search needs
-
 returns : tie.Need-returns
 returns c =
     let a = c .before .before .before .before .before .before .before .args in
@@ -30,4 +21,4 @@ returns c =
     }
 
 pub lindenscoop-mark-spec : {M : Type 1} → statement M
-lindenscoop-mark-spec = tie.close (tie.spec mark-requires number-requires same-length returns)
+lindenscoop-mark-spec = tie.close (tie.spec (λ c κs. search needs) (λ c κs. search needs) (λ c. search needs) returns)

@@ -5,18 +5,6 @@ use borrow.Author.Needs.{needs}
 use Rattle.lindenscoop.proofs.meanings.lindenscoop_meaning.Statement.{statement}
 use Rattle.lindenscoop.proofs.meanings.lindenscoop_meaning.Tie as tie
 
-say-meaning-requires : tie.Need-say-meaning-requires
-say-meaning-requires c κs = search needs
-
-length-requires : tie.Need-length-requires
-length-requires c κs = search needs
-
-number-requires : tie.Need-number-requires
-number-requires c κs = search needs
-
-same-length : tie.Need-same-length
-same-length c = search needs
-
 returns : tie.Need-returns
 returns c =
     let s = c .before .before .before .before .say-meaning .ensures in
@@ -28,4 +16,4 @@ returns c =
 
 pub lindenscoop-meaning-spec : {M : Type 1} → statement M
 lindenscoop-meaning-spec =
-    tie.close (tie.spec say-meaning-requires length-requires number-requires same-length returns)
+    tie.close (tie.spec (λ c κs. search needs) (λ c κs. search needs) (λ c κs. search needs) (λ c. search needs) returns)

@@ -10,16 +10,10 @@ returns c =
     let a = c .before .before .before .args in
     too-long (now (a .text)) (now (a .out)) (c .if1 .taken)
 
-put-bytes-requires : tie.Need-put-bytes-requires
-put-bytes-requires c κs = search needs
-
-same-length : tie.Need-same-length
-same-length c = search needs
-
 returns-2 : tie.Need-returns-2
 returns-2 c =
     let a = c .before .before .before .before .before .before .before .args in
     said (now (a .text)) (now (a .out)) (c .before .before .before .before .if1 .left) (c .before .before .put-bytes .ensures)
 
 pub say-spec : {M : Type 1} → statement M
-say-spec = tie.close (tie.spec returns put-bytes-requires same-length returns-2)
+say-spec = tie.close (tie.spec returns (λ c κs. search needs) (λ c. search needs) returns-2)

@@ -18,17 +18,8 @@ abbrev μ-loop : tie.MeasureT-loop
 loop-holds : tie.Need-loop-holds Inv-loop μ-loop
 loop-holds c = (omega arith, behind-none _)
 
-shared-slice-read-feed : tie.Need-shared-slice-read-feed Inv-loop μ-loop
-shared-slice-read-feed c = search needs
-
-feed-requires : tie.Need-feed-requires Inv-loop μ-loop
-feed-requires c κs = search needs
-
 add-i : tie.Need-add-i Inv-loop μ-loop
 add-i c = omega arith
-
-is-answer-requires : tie.Need-is-answer-requires Inv-loop μ-loop
-is-answer-requires c κs = search needs
 
 returns : tie.Need-returns Inv-loop μ-loop
 returns c =
@@ -57,10 +48,10 @@ feed-until-spec =
     Inv-loop
     μ-loop
     loop-holds
-    shared-slice-read-feed
-    feed-requires
+    (λ c. search needs)
+    (λ c κs. search needs)
     add-i
-    is-answer-requires
+    (λ c κs. search needs)
     returns
     loop-less
     loop-again

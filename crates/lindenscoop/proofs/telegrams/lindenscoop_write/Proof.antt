@@ -5,18 +5,6 @@ use borrow.Author.Needs.{needs}
 use Rattle.lindenscoop.proofs.telegrams.lindenscoop_write.Statement.{statement}
 use Rattle.lindenscoop.proofs.telegrams.lindenscoop_write.Tie as tie
 
-write-numbers-requires : tie.Need-write-numbers-requires
-write-numbers-requires c κs = search needs
-
-length-requires : tie.Need-length-requires
-length-requires c κs = search needs
-
-number-requires : tie.Need-number-requires
-number-requires c κs = search needs
-
-same-length : tie.Need-same-length
-same-length c = search needs
-
 returns : tie.Need-returns
 returns c =
     let w = c .before .before .before .before .write-numbers .ensures in
@@ -28,4 +16,4 @@ returns c =
 
 pub lindenscoop-write-spec : {M : Type 1} → statement M
 lindenscoop-write-spec =
-    tie.close (tie.spec write-numbers-requires length-requires number-requires same-length returns)
+    tie.close (tie.spec (λ c κs. search needs) (λ c κs. search needs) (λ c κs. search needs) (λ c. search needs) returns)

@@ -9,9 +9,6 @@ use Rattle.listener.proofs.Steps.{far-away, many-kept, moves-on, newest
 use Rattle.listener.proofs.Listener.feed.Statement.{statement}
 use Rattle.listener.proofs.Listener.feed.Tie as tie
 
-length-of-requires : tie.Need-length-of-requires
-length-of-requires c κs = search needs
-
 returns : tie.Need-returns
 returns c =
     let a = c .before .before .args in
@@ -21,18 +18,6 @@ returns-2 : tie.Need-returns-2
 returns-2 c =
     let a = c .before .before .before .args in
     refused-state (a .self) (a .b) _ (c .before .before .length-of .ensures) (far-away _ (a .self) (c .before .if1 .left) (c .if2 .taken))
-
-place-requires : tie.Need-place-requires
-place-requires c κs = search needs
-
-with-byte-requires : tie.Need-with-byte-requires
-with-byte-requires c κs = search needs
-
-add-wrap : tie.Need-add-wrap
-add-wrap c = search needs
-
-wrap-requires : tie.Need-wrap-requires
-wrap-requires c κs = search needs
 
 most : (n f : ℕ) → n ≡ lengthOf f → n ≤ 66
 most n f e = rw e (length-most f)
@@ -58,9 +43,6 @@ handed-out-requires : tie.Need-handed-out-requires
 handed-out-requires c κs =
     (c .before .before .before .before .before .if2 .left, most _ _ (c .before .before .before .before .before .before .before .length-of .ensures))
 
-kept-after-requires : tie.Need-kept-after-requires
-kept-after-requires c κs = search needs
-
 distance-after-requires : tie.Need-distance-after-requires
 distance-after-requires c κs =
     (c .before .before .before .before .before .before .before .if2 .left, most _ _ (c .before .before .before .before .before .before .before .before .before .length-of .ensures))
@@ -82,15 +64,15 @@ pub feed-spec : {M : Type 1} → statement M
 feed-spec =
     tie.close
     (tie.spec
-    length-of-requires
+    (λ c κs. search needs)
     returns
     returns-2
-    place-requires
-    with-byte-requires
-    add-wrap
-    wrap-requires
+    (λ c κs. search needs)
+    (λ c κs. search needs)
+    (λ c. search needs)
+    (λ c κs. search needs)
     completed-requires
     handed-out-requires
-    kept-after-requires
+    (λ c κs. search needs)
     distance-after-requires
     returns-3)

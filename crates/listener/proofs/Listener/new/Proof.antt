@@ -7,9 +7,6 @@ use Rattle.listener.specs.Listening.{startedOf}
 use Rattle.listener.proofs.Listener.new.Statement.{statement}
 use Rattle.listener.proofs.Listener.new.Tie as tie
 
-length-of-requires : tie.Need-length-of-requires
-length-of-requires c κs = search needs
-
 returns : tie.Need-returns
 unfolding startedOf
 returns c =
@@ -25,4 +22,4 @@ returns-2 c =
     rw (ne-eqb (lengthOf (a .form)) 0 z, c .before .length-of .ensures)
 
 pub new-spec : {M : Type 1} → statement M
-new-spec = tie.close (tie.spec length-of-requires returns returns-2)
+new-spec = tie.close (tie.spec (λ c κs. search needs) returns returns-2)

@@ -19,9 +19,6 @@ Inv-loop form s marks₀ listener₀ i₀ marks listener i =
 abbrev μ-loop : tie.MeasureT-loop
 μ-loop form s marks₀ listener₀ i₀ marks listener i = length s - i
 
-length-of-requires : tie.Need-length-of-requires Inv-loop μ-loop
-length-of-requires c κs = search needs
-
 returns : tie.Need-returns Inv-loop μ-loop
 returns c =
     let a = c .before .before .before .before .args in
@@ -32,24 +29,9 @@ returns-2 c =
     let a = c .before .before .before .before .before .args in
     no-room (a .form) (now (a .s)) (now (a .marks)) (λ e. c .before .if1 .left (c .before .before .length-of .ensures ∙ e)) (c .if2 .taken)
 
-new-requires : tie.Need-new-requires Inv-loop μ-loop
-new-requires c κs = search needs
-
 loop-holds : tie.Need-loop-holds Inv-loop μ-loop
 unfolding hears
 loop-holds c = (omega arith, refl, rw (c .before .new .ensures))
-
-shared-slice-read-feed : tie.Need-shared-slice-read-feed Inv-loop μ-loop
-shared-slice-read-feed c = search needs
-
-feed-requires : tie.Need-feed-requires Inv-loop μ-loop
-feed-requires c κs = search needs
-
-mark-of-requires : tie.Need-mark-of-requires Inv-loop μ-loop
-mark-of-requires c κs = search needs
-
-put-byte-requires : tie.Need-put-byte-requires Inv-loop μ-loop
-put-byte-requires c κs = search needs
 
 add-i : tie.Need-add-i Inv-loop μ-loop
 add-i c = omega arith
@@ -81,15 +63,15 @@ mark-spec =
     (tie.spec
     Inv-loop
     μ-loop
-    length-of-requires
+    (λ c κs. search needs)
     returns
     returns-2
-    new-requires
+    (λ c κs. search needs)
     loop-holds
-    shared-slice-read-feed
-    feed-requires
-    mark-of-requires
-    put-byte-requires
+    (λ c. search needs)
+    (λ c κs. search needs)
+    (λ c κs. search needs)
+    (λ c κs. search needs)
     add-i
     loop-less
     loop-again

@@ -15,27 +15,6 @@ Inv-loop from n y z₀ i₀ z i = (i ≤ n) × ((length z ≡ 66) × (take i z �
 abbrev μ-loop : tie.MeasureT-loop
 μ-loop from n y z₀ i₀ z i = n - i
 
-loop-holds : tie.Need-loop-holds Inv-loop μ-loop
-loop-holds c = search needs
-
-add-wrap : tie.Need-add-wrap Inv-loop μ-loop
-add-wrap c = search needs
-
-wrap-requires : tie.Need-wrap-requires Inv-loop μ-loop
-wrap-requires c κs = search needs
-
-array-read-z : tie.Need-array-read-z Inv-loop μ-loop
-array-read-z c = search needs
-
-array-write-z : tie.Need-array-write-z Inv-loop μ-loop
-array-write-z c = search needs
-
-add-i : tie.Need-add-i Inv-loop μ-loop
-add-i c = search needs
-
-loop-less : tie.Need-loop-less Inv-loop μ-loop
-loop-less c = search needs
-
 loop-again : tie.Need-loop-again Inv-loop μ-loop
 loop-again c =
     let a = c .before .before .before .args in
@@ -54,12 +33,12 @@ in-order-spec =
     (tie.spec
     Inv-loop
     μ-loop
-    loop-holds
-    add-wrap
-    wrap-requires
-    array-read-z
-    array-write-z
-    add-i
-    loop-less
+    (λ c. search needs)
+    (λ c. search needs)
+    (λ c κs. search needs)
+    (λ c. search needs)
+    (λ c. search needs)
+    (λ c. search needs)
+    (λ c. search needs)
     loop-again
     returns)

@@ -5,12 +5,6 @@ use borrow.Author.Needs.{needs}
 use Rattle.numbers.proofs.given.channel_at.Statement.{statement}
 use Rattle.numbers.proofs.given.channel_at.Tie as tie
 
-shared-slice-read-if1 : tie.Need-shared-slice-read-if1
-shared-slice-read-if1 c = search needs
-
-shared-slice-read-t6 : tie.Need-shared-slice-read-t6
-shared-slice-read-t6 c = search needs
-
 returns : tie.Need-returns
 unfolding channelAt
 returns c = simp (eq-eqb _ _ (c .before .if1 .taken))
@@ -20,4 +14,4 @@ unfolding channelAt
 returns-2 c = simp (ne-eqb _ _ (c .if1 .left))
 
 pub channel-at-spec : {M : Type 1} → statement M
-channel-at-spec = tie.close (tie.spec shared-slice-read-if1 shared-slice-read-t6 returns returns-2)
+channel-at-spec = tie.close (tie.spec (λ c. search needs) (λ c. search needs) returns returns-2)

@@ -5,24 +5,9 @@ use borrow.Author.Needs.{needs}
 use Rattle.numbers.proofs.given.date_at.Statement.{statement}
 use Rattle.numbers.proofs.given.date_at.Tie as tie
 
-shared-slice-read-kind : tie.Need-shared-slice-read-kind
-shared-slice-read-kind c = search needs
-
-shared-slice-read-t7 : tie.Need-shared-slice-read-t7
-shared-slice-read-t7 c = search needs
-
-shared-slice-read-t9 : tie.Need-shared-slice-read-t9
-shared-slice-read-t9 c = search needs
-
-shared-slice-read-t11 : tie.Need-shared-slice-read-t11
-shared-slice-read-t11 c = search needs
-
 returns : tie.Need-returns
 unfolding dateAt
 returns c = simp (eq-eqb _ _ (c .before .before .before .if1 .taken))
-
-shared-slice-read-t13 : tie.Need-shared-slice-read-t13
-shared-slice-read-t13 c = search needs
 
 returns-2 : tie.Need-returns-2
 unfolding dateAt
@@ -36,11 +21,11 @@ pub date-at-spec : {M : Type 1} → statement M
 date-at-spec =
     tie.close
     (tie.spec
-    shared-slice-read-kind
-    shared-slice-read-t7
-    shared-slice-read-t9
-    shared-slice-read-t11
+    (λ c. search needs)
+    (λ c. search needs)
+    (λ c. search needs)
+    (λ c. search needs)
     returns
-    shared-slice-read-t13
+    (λ c. search needs)
     returns-2
     returns-3)

@@ -5,12 +5,6 @@ use borrow.Author.Needs.{needs}
 use Rattle.numbers.proofs.given.flag_at.Statement.{statement}
 use Rattle.numbers.proofs.given.flag_at.Tie as tie
 
-mul-kind : tie.Need-mul-kind
-mul-kind c = search needs
-
-shared-slice-read-kind : tie.Need-shared-slice-read-kind
-shared-slice-read-kind c = search needs
-
 returns : tie.Need-returns
 unfolding flagAt
 returns c = simp (eq-eqb _ _ (c .if1 .taken))
@@ -24,4 +18,4 @@ unfolding flagAt
 returns-3 c = simp (ne-eqb _ _ (c .before .if1 .left), ne-eqb _ _ (c .if2 .left))
 
 pub flag-at-spec : {M : Type 1} → statement M
-flag-at-spec = tie.close (tie.spec mul-kind shared-slice-read-kind returns returns-2 returns-3)
+flag-at-spec = tie.close (tie.spec (λ c. search needs) (λ c. search needs) returns returns-2 returns-3)

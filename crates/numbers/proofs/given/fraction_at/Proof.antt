@@ -5,18 +5,9 @@ use borrow.Author.Needs.{needs}
 use Rattle.numbers.proofs.given.fraction_at.Statement.{statement}
 use Rattle.numbers.proofs.given.fraction_at.Tie as tie
 
-shared-slice-read-kind : tie.Need-shared-slice-read-kind
-shared-slice-read-kind c = search needs
-
-shared-slice-read-t7 : tie.Need-shared-slice-read-t7
-shared-slice-read-t7 c = search needs
-
 returns : tie.Need-returns
 unfolding fractionAt
 returns c = simp (eq-eqb _ _ (c .before .if1 .taken))
-
-shared-slice-read-t9 : tie.Need-shared-slice-read-t9
-shared-slice-read-t9 c = search needs
 
 returns-2 : tie.Need-returns-2
 unfolding fractionAt
@@ -30,9 +21,9 @@ pub fraction-at-spec : {M : Type 1} → statement M
 fraction-at-spec =
     tie.close
     (tie.spec
-    shared-slice-read-kind
-    shared-slice-read-t7
+    (λ c. search needs)
+    (λ c. search needs)
     returns
-    shared-slice-read-t9
+    (λ c. search needs)
     returns-2
     returns-3)

@@ -10,9 +10,6 @@ use borrow.Author.Needs.{needs}
 use Rattle.numbers.proofs.given.offset_at.Statement.{statement}
 use Rattle.numbers.proofs.given.offset_at.Tie as tie
 
-shared-slice-read-if1 : tie.Need-shared-slice-read-if1
-shared-slice-read-if1 c = search needs
-
 signed-at-requires : tie.Need-signed-at-requires
 signed-at-requires c κs = (search needs, offset-sign _ (c .before .before .before .pre .1) (c .if1 .taken))
 
@@ -26,4 +23,4 @@ unfolding offsetAt
 returns-2 c = simp (ne-eqb _ _ (c .if1 .left))
 
 pub offset-at-spec : {M : Type 1} → statement M
-offset-at-spec = tie.close (tie.spec shared-slice-read-if1 signed-at-requires returns returns-2)
+offset-at-spec = tie.close (tie.spec (λ c. search needs) signed-at-requires returns returns-2)

@@ -10,17 +10,11 @@ use borrow.Author.Needs.{needs}
 use Rattle.numbers.proofs.given.position_at.Statement.{statement}
 use Rattle.numbers.proofs.given.position_at.Tie as tie
 
-shared-slice-read-if1 : tie.Need-shared-slice-read-if1
-shared-slice-read-if1 c = search needs
-
 signed-at-requires : tie.Need-signed-at-requires
 signed-at-requires c κs = (search needs, position-signs _ (c .before .before .before .pre .1) (c .if1 .taken) .0)
 
 signed-at-requires-2 : tie.Need-signed-at-requires-2
 signed-at-requires-2 c κs = (search needs, position-signs _ (c .before .before .before .before .pre .1) (c .before .if1 .taken) .1)
-
-shared-slice-read-t8 : tie.Need-shared-slice-read-t8
-shared-slice-read-t8 c = search needs
 
 returns : tie.Need-returns
 returns c =
@@ -36,9 +30,9 @@ pub position-at-spec : {M : Type 1} → statement M
 position-at-spec =
     tie.close
     (tie.spec
-    shared-slice-read-if1
+    (λ c. search needs)
     signed-at-requires
     signed-at-requires-2
-    shared-slice-read-t8
+    (λ c. search needs)
     returns
     returns-2)

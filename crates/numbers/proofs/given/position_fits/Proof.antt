@@ -4,18 +4,6 @@ use borrow.Author.Needs.{needs}
 use Rattle.numbers.proofs.given.position_fits.Statement.{statement}
 use Rattle.numbers.proofs.given.position_fits.Tie as tie
 
-shared-slice-read-result : tie.Need-shared-slice-read-result
-shared-slice-read-result c = search needs
-
-shared-slice-read-result-2 : tie.Need-shared-slice-read-result-2
-shared-slice-read-result-2 c = search needs
-
-sign-fits-requires : tie.Need-sign-fits-requires
-sign-fits-requires c κs = search needs
-
-sign-fits-requires-2 : tie.Need-sign-fits-requires-2
-sign-fits-requires-2 c κs = search needs
-
 returns : tie.Need-returns
 unfolding positionFits
 returns c = simp (c .before .sign-fits .ensures, c .sign-fits2 .ensures)
@@ -24,8 +12,8 @@ pub position-fits-spec : {M : Type 1} → statement M
 position-fits-spec =
     tie.close
     (tie.spec
-    shared-slice-read-result
-    shared-slice-read-result-2
-    sign-fits-requires
-    sign-fits-requires-2
+    (λ c. search needs)
+    (λ c. search needs)
+    (λ c κs. search needs)
+    (λ c κs. search needs)
     returns)

@@ -12,15 +12,6 @@ returns : tie.Need-returns
 unfolding recordOf
 returns c = simp (ne-eqb _ _ (c .if1 .taken))
 
-kinds-fit-requires : tie.Need-kinds-fit-requires
-kinds-fit-requires c κs = search needs
-
-offset-fits-requires : tie.Need-offset-fits-requires
-offset-fits-requires c κs = search needs
-
-position-fits-requires : tie.Need-position-fits-requires
-position-fits-requires c κs = search needs
-
 record-at-requires : tie.Need-record-at-requires
 record-at-requires c κs =
     let o = c .before .before .offset-fits in
@@ -45,9 +36,9 @@ record-of-spec =
     tie.close
     (tie.spec
     returns
-    kinds-fit-requires
-    offset-fits-requires
-    position-fits-requires
+    (λ c κs. search needs)
+    (λ c κs. search needs)
+    (λ c κs. search needs)
     record-at-requires
     returns-2
     returns-3)

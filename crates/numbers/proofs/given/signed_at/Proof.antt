@@ -10,21 +10,6 @@ use borrow.Author.Needs.{needs}
 use Rattle.numbers.proofs.given.signed_at.Statement.{statement}
 use Rattle.numbers.proofs.given.signed_at.Tie as tie
 
-mul-signed-number : tie.Need-mul-signed-number
-mul-signed-number c = search needs
-
-shared-slice-read-signed-number : tie.Need-shared-slice-read-signed-number
-shared-slice-read-signed-number c = search needs
-
-add-signed-number : tie.Need-add-signed-number
-add-signed-number c = search needs
-
-mul-signed-number-2 : tie.Need-mul-signed-number-2
-mul-signed-number-2 c = search needs
-
-shared-slice-read-signed-number-2 : tie.Need-shared-slice-read-signed-number-2
-shared-slice-read-signed-number-2 c = search needs
-
 signed-number-requires : tie.Need-signed-number-requires
 signed-number-requires c κs =
     let a = c .before .before .before in
@@ -40,10 +25,10 @@ pub signed-at-spec : {M : Type 1} → statement M
 signed-at-spec =
     tie.close
     (tie.spec
-    mul-signed-number
-    shared-slice-read-signed-number
-    add-signed-number
-    mul-signed-number-2
-    shared-slice-read-signed-number-2
+    (λ c. search needs)
+    (λ c. search needs)
+    (λ c. search needs)
+    (λ c. search needs)
+    (λ c. search needs)
     signed-number-requires
     returns)

@@ -4,21 +4,6 @@ use borrow.Author.Needs.{needs}
 use Rattle.numbers.proofs.told.put_pending.Statement.{statement}
 use Rattle.numbers.proofs.told.put_pending.Tie as tie
 
-flag-number-requires : tie.Need-flag-number-requires
-flag-number-requires c κs = search needs
-
-flag-number-requires-2 : tie.Need-flag-number-requires-2
-flag-number-requires-2 c κs = search needs
-
-slice-aggregate-put-numbers : tie.Need-slice-aggregate-put-numbers
-slice-aggregate-put-numbers c = search needs
-
-put-numbers-requires : tie.Need-put-numbers-requires
-put-numbers-requires c κs = search needs
-
-same-length : tie.Need-same-length
-same-length c = search needs
-
 returns : tie.Need-returns
 returns c =
     c .before .before .put-numbers .ensures
@@ -28,9 +13,9 @@ pub put-pending-spec : {M : Type 1} → statement M
 put-pending-spec =
     tie.close
     (tie.spec
-    flag-number-requires
-    flag-number-requires-2
-    slice-aggregate-put-numbers
-    put-numbers-requires
-    same-length
+    (λ c κs. search needs)
+    (λ c κs. search needs)
+    (λ c. search needs)
+    (λ c κs. search needs)
+    (λ c. search needs)
     returns)

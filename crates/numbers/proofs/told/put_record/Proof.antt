@@ -10,27 +10,6 @@ returns c =
     let a = c .before .before .args in
     no-room (a .r) (now (a .out)) (c .if1 .taken)
 
-put-time-and-date-requires : tie.Need-put-time-and-date-requires
-put-time-and-date-requires c κs = search needs
-
-put-fraction-and-channel-requires : tie.Need-put-fraction-and-channel-requires
-put-fraction-and-channel-requires c κs = search needs
-
-put-flags-requires : tie.Need-put-flags-requires
-put-flags-requires c κs = search needs
-
-put-offset-requires : tie.Need-put-offset-requires
-put-offset-requires c κs = search needs
-
-put-position-requires : tie.Need-put-position-requires
-put-position-requires c κs = search needs
-
-put-pending-requires : tie.Need-put-pending-requires
-put-pending-requires c κs = search needs
-
-same-length : tie.Need-same-length
-same-length c = search needs
-
 returns-2 : tie.Need-returns-2
 returns-2 c =
     let a = c .before .before .before .before .before .before .before .before .before .before .before .before .before .before .before .before .before .before .before .before .before .before .before .before .before .before .args in
@@ -41,11 +20,11 @@ put-record-spec =
     tie.close
     (tie.spec
     returns
-    put-time-and-date-requires
-    put-fraction-and-channel-requires
-    put-flags-requires
-    put-offset-requires
-    put-position-requires
-    put-pending-requires
-    same-length
+    (λ c κs. search needs)
+    (λ c κs. search needs)
+    (λ c κs. search needs)
+    (λ c κs. search needs)
+    (λ c κs. search needs)
+    (λ c κs. search needs)
+    (λ c. search needs)
     returns-2)

@@ -5,12 +5,6 @@ use Rattle.record.specs.Record.{channelInRange}
 use Rattle.record.proofs.range.channel_in_range.Statement.{statement}
 use Rattle.record.proofs.range.channel_in_range.Tie as tie
 
-enum-told : tie.Need-enum-told
-enum-told c = search needs
-
-enum-known-channel : tie.Need-enum-known-channel
-enum-known-channel c = search needs
-
 returns : tie.Need-returns
 unfolding channelInRange
 returns c = search needs
@@ -20,4 +14,4 @@ unfolding channelInRange
 returns-2 c = sym (ap channelInRange (c .before .channel .given .1))
 
 pub channel-in-range-spec : {M : Type 1} → statement M
-channel-in-range-spec = tie.close (tie.spec enum-told enum-known-channel returns returns-2)
+channel-in-range-spec = tie.close (tie.spec (λ c. search needs) (λ c. search needs) returns returns-2)

@@ -5,18 +5,6 @@ use Rattle.record.specs.Record.{dateInRange}
 use Rattle.record.proofs.range.date_in_range.Statement.{statement}
 use Rattle.record.proofs.range.date_in_range.Tie as tie
 
-enum-told : tie.Need-enum-told
-enum-told c = search needs
-
-enum-known-date : tie.Need-enum-known-date
-enum-known-date c = search needs
-
-is-date-requires : tie.Need-is-date-requires
-is-date-requires c κs = search needs
-
-enum-known-date-2 : tie.Need-enum-known-date-2
-enum-known-date-2 c = search needs
-
 returns : tie.Need-returns
 unfolding dateInRange
 returns c = search needs
@@ -33,10 +21,10 @@ pub date-in-range-spec : {M : Type 1} → statement M
 date-in-range-spec =
     tie.close
     (tie.spec
-    enum-told
-    enum-known-date
-    is-date-requires
-    enum-known-date-2
+    (λ c. search needs)
+    (λ c. search needs)
+    (λ c κs. search needs)
+    (λ c. search needs)
     returns
     returns-2
     returns-3)

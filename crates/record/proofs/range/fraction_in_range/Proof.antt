@@ -5,15 +5,6 @@ use Rattle.record.specs.Record.{fractionInRange}
 use Rattle.record.proofs.range.fraction_in_range.Statement.{statement}
 use Rattle.record.proofs.range.fraction_in_range.Tie as tie
 
-enum-told : tie.Need-enum-told
-enum-told c = search needs
-
-enum-known-fraction : tie.Need-enum-known-fraction
-enum-known-fraction c = search needs
-
-enum-known-fraction-2 : tie.Need-enum-known-fraction-2
-enum-known-fraction-2 c = search needs
-
 returns : tie.Need-returns
 unfolding fractionInRange
 returns c = search needs
@@ -29,4 +20,4 @@ returns-3 c = sym (ap fractionInRange (c .before .fraction2 .given .1))
 pub fraction-in-range-spec : {M : Type 1} → statement M
 fraction-in-range-spec =
     tie.close
-    (tie.spec enum-told enum-known-fraction enum-known-fraction-2 returns returns-2 returns-3)
+    (tie.spec (λ c. search needs) (λ c. search needs) (λ c. search needs) returns returns-2 returns-3)

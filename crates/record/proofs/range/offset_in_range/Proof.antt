@@ -10,15 +10,6 @@ use Rattle.record.specs.Record.{offsetInRange}
 use Rattle.record.proofs.range.offset_in_range.Statement.{statement}
 use Rattle.record.proofs.range.offset_in_range.Tie as tie
 
-enum-told : tie.Need-enum-told
-enum-told c = search needs
-
-enum-known-offset : tie.Need-enum-known-offset
-enum-known-offset c = search needs
-
-magnitude-requires : tie.Need-magnitude-requires
-magnitude-requires c κs = search needs
-
 returns : tie.Need-returns
 unfolding offsetInRange
 returns c = search needs
@@ -31,4 +22,4 @@ returns-2 c =
 
 pub offset-in-range-spec : {M : Type 1} → statement M
 offset-in-range-spec =
-    tie.close (tie.spec enum-told enum-known-offset magnitude-requires returns returns-2)
+    tie.close (tie.spec (λ c. search needs) (λ c. search needs) (λ c κs. search needs) returns returns-2)

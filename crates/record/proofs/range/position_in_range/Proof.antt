@@ -7,18 +7,6 @@ use Rattle.record.specs.Record.{positionInRange}
 use Rattle.record.proofs.range.position_in_range.Statement.{statement}
 use Rattle.record.proofs.range.position_in_range.Tie as tie
 
-enum-told : tie.Need-enum-told
-enum-told c = search needs
-
-enum-known-position : tie.Need-enum-known-position
-enum-known-position c = search needs
-
-magnitude-requires : tie.Need-magnitude-requires
-magnitude-requires c κs = search needs
-
-magnitude-requires-2 : tie.Need-magnitude-requires-2
-magnitude-requires-2 c κs = search needs
-
 returns : tie.Need-returns
 unfolding positionInRange
 returns c = search needs
@@ -34,9 +22,9 @@ pub position-in-range-spec : {M : Type 1} → statement M
 position-in-range-spec =
     tie.close
     (tie.spec
-    enum-told
-    enum-known-position
-    magnitude-requires
-    magnitude-requires-2
+    (λ c. search needs)
+    (λ c. search needs)
+    (λ c κs. search needs)
+    (λ c κs. search needs)
     returns
     returns-2)

@@ -23,14 +23,8 @@ module _ (n : ℕ) (h : n ≤ 2147483647) where
   opposite-fits : SFits w32 (negℤ (pos n))
   opposite-fits = omega (arith, mag-opposite (pos n))
 
-cast-result : tie.Need-cast-result
-cast-result c = search needs
-
 sub-result : tie.Need-sub-result
 sub-result c = subst (SFits w32) (sym (difference _ (c .before .pre))) (opposite-fits _ (c .before .pre))
-
-cast-result-2 : tie.Need-cast-result-2
-cast-result-2 c = search needs
 
 returns : tie.Need-returns
 returns c =
@@ -44,4 +38,4 @@ returns-2 c =
     plain n (c .before .pre) ∙ ap (λ b. signed b n) (sym (c .if1 .left))
 
 pub signed-number-spec : {M : Type 1} → statement M
-signed-number-spec = tie.close (tie.spec cast-result sub-result cast-result-2 returns returns-2)
+signed-number-spec = tie.close (tie.spec (λ c. search needs) sub-result (λ c. search needs) returns returns-2)

@@ -12,17 +12,11 @@ returns : tie.Need-returns
 unfolding formOf
 returns c = rw (ne-eqb (length (now (c .before .args .line))) 2 (c .if1 .taken))
 
-shared-slice-read-if2 : tie.Need-shared-slice-read-if2
-shared-slice-read-if2 c = search needs
-
 returns-2 : tie.Need-returns-2
 unfolding formOf
 returns-2 c =
     let s = now (c .before .before .before .args .line) in
     rw (eq-eqb (length s) 2 (c .before .before .if1 .left), ne-eqb (getD s 1 0) 10 (c .if2 .taken))
-
-shared-slice-read-b : tie.Need-shared-slice-read-b
-shared-slice-read-b c = search needs
 
 returns-3 : tie.Need-returns-3
 unfolding formOf
@@ -36,12 +30,6 @@ returns-4 c =
     let s = now (c .before .before .before .before .before .before .args .line) in
     rw (eq-eqb (length s) 2 (c .before .before .before .before .before .if1 .left), eq-eqb (getD s 1 0) 10 (c .before .before .before .if2 .left), le-leb 49 (getD s 0 0) (omega arith), lt-leb (getD s 0 0) 55 (omega arith))
 
-sub-result : tie.Need-sub-result
-sub-result c = search needs
-
-cast-result : tie.Need-cast-result
-cast-result c = search needs
-
 returns-5 : tie.Need-returns-5
 unfolding formOf
 returns-5 c =
@@ -53,11 +41,11 @@ form-of-spec =
     tie.close
     (tie.spec
     returns
-    shared-slice-read-if2
+    (λ c. search needs)
     returns-2
-    shared-slice-read-b
+    (λ c. search needs)
     returns-3
     returns-4
-    sub-result
-    cast-result
+    (λ c. search needs)
+    (λ c. search needs)
     returns-5)

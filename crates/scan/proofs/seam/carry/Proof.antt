@@ -6,31 +6,10 @@ use Rattle.scan.proofs.Moved.{carried, none-carried}
 use Rattle.scan.proofs.seam.carry.Statement.{statement}
 use Rattle.scan.proofs.seam.carry.Tie as tie
 
-length-of-requires : tie.Need-length-of-requires
-length-of-requires c κs = search needs
-
 returns : tie.Need-returns
 returns c =
     let a = c .before .before .before .args in
     none-carried (a .form) (a .end) (now (a .buffer)) (sym (c .before .length-of .ensures) ∙ c .if1 .taken)
-
-least-requires : tie.Need-least-requires
-least-requires c κs = search needs
-
-sub-least : tie.Need-sub-least
-sub-least c = search needs
-
-least-requires-2 : tie.Need-least-requires-2
-least-requires-2 c κs = search needs
-
-sub-move-to-head : tie.Need-sub-move-to-head
-sub-move-to-head c = search needs
-
-move-to-head-requires : tie.Need-move-to-head-requires
-move-to-head-requires c κs = search needs
-
-same-length : tie.Need-same-length
-same-length c = search needs
 
 returns-2 : tie.Need-returns-2
 returns-2 c =
@@ -43,12 +22,12 @@ pub carry-spec : {M : Type 1} → statement M
 carry-spec =
     tie.close
     (tie.spec
-    length-of-requires
+    (λ c κs. search needs)
     returns
-    least-requires
-    sub-least
-    least-requires-2
-    sub-move-to-head
-    move-to-head-requires
-    same-length
+    (λ c κs. search needs)
+    (λ c. search needs)
+    (λ c κs. search needs)
+    (λ c. search needs)
+    (λ c κs. search needs)
+    (λ c. search needs)
     returns-2)

@@ -7,12 +7,6 @@ use Rattle.scan.proofs.Paragraphs.{closed, closed-long, closes, not-ref
 use Rattle.scan.proofs.telling.put_paragraph.Statement.{statement}
 use Rattle.scan.proofs.telling.put_paragraph.Tie as tie
 
-write-requires : tie.Need-write-requires
-write-requires c κs = search needs
-
-enum-known-n : tie.Need-enum-known-n
-enum-known-n c = search needs
-
 put-byte-requires : tie.Need-put-byte-requires
 put-byte-requires c κs =
     let s = c .before .before .before .before .before .before .before .before .before in
@@ -25,21 +19,12 @@ add-result c =
     let w = c .before .before .before .before .before .before .before .before .before .write .ensures in
     omega (arith, closed-long (s .args .r) (s .pre .0) (now (s .args .out)) _ (s .pre .1) _ _ (n .1) w, paragraph-most (s .args .r) (s .pre .0))
 
-enum-told : tie.Need-enum-told
-enum-told c = search needs
-
-same-length : tie.Need-same-length
-same-length c = search needs
-
 returns : tie.Need-returns
 returns c =
     let s = c .before .before .before .before .before .before .before .before .before .before .before .before in
     let n = c .before .before .before .before .before .n .given in
     let w = c .before .before .before .before .before .before .before .before .before .write .ensures in
     (closed-long (s .args .r) (s .pre .0) (now (s .args .out)) _ (s .pre .1) _ _ (n .1) w, c .before .before .put-byte .ensures ∙ closed (s .args .r) (s .pre .0) (now (s .args .out)) _ (s .pre .1) _ _ (n .1) w)
-
-same-length-2 : tie.Need-same-length-2
-same-length-2 c = search needs
 
 returns-2 : tie.Need-returns-2
 returns-2 c =
@@ -50,12 +35,12 @@ pub put-paragraph-spec : {M : Type 1} → statement M
 put-paragraph-spec =
     tie.close
     (tie.spec
-    write-requires
-    enum-known-n
+    (λ c κs. search needs)
+    (λ c. search needs)
     put-byte-requires
     add-result
-    enum-told
-    same-length
+    (λ c. search needs)
+    (λ c. search needs)
     returns
-    same-length-2
+    (λ c. search needs)
     returns-2)

@@ -18,9 +18,6 @@ Inv-loop form piece out₀ n telegrams₀ bytes₀ start₀ out telegrams bytes 
 abbrev μ-loop : tie.MeasureT-loop
 μ-loop form piece out₀ n telegrams₀ bytes₀ start₀ out telegrams bytes start = length piece - start
 
-length-of-requires : tie.Need-length-of-requires Inv-loop μ-loop
-length-of-requires c κs = search needs
-
 returns : tie.Need-returns Inv-loop μ-loop
 returns c =
     let a = c .before .before .before .before .args in
@@ -33,12 +30,6 @@ returns-2 c =
 
 loop-holds : tie.Need-loop-holds Inv-loop μ-loop
 loop-holds c = begins _ _ _
-
-search-requires : tie.Need-search-requires Inv-loop μ-loop
-search-requires c κs = search needs
-
-enum-known-finding : tie.Need-enum-known-finding Inv-loop μ-loop
-enum-known-finding c = search needs
 
 sub-put-paragraph : tie.Need-sub-put-paragraph Inv-loop μ-loop
 sub-put-paragraph c = omega arith
@@ -93,9 +84,6 @@ loop-again c =
     let known : lengthOf (a .form) ≡ 0 → ⊥ = λ e. c .before .before .before .before .before .before .before .before .before .before .if1 .left (c .before .before .before .before .before .before .before .before .before .before .before .length-of .ensures ∙ e) in
     goes-on (a .form) (now (a .piece)) (now (a .out)) known (c .before .before .before .before .before .before .before .before .before .if2 .left) (q .out) (q .telegrams) (q .bytes) (q .start) (q .inv) _ (c .before .before .before .before .before .before .before .search .ensures) _ _ (c .before .before .before .before .before .finding .given .1) _ _ _ (c .before .before .before .before .before .before .before .before .before .before .before .length-of .ensures) (c .before .before .put-paragraph .ensures .0) (c .before .before .put-paragraph .ensures .1) .1
 
-enum-told : tie.Need-enum-told Inv-loop μ-loop
-enum-told c = search needs
-
 same-length : tie.Need-same-length Inv-loop μ-loop
 same-length c = c .before .before .before .loop .inv .same-room
 
@@ -112,12 +100,12 @@ tell-spec =
     (tie.spec
     Inv-loop
     μ-loop
-    length-of-requires
+    (λ c κs. search needs)
     returns
     returns-2
     loop-holds
-    search-requires
-    enum-known-finding
+    (λ c κs. search needs)
+    (λ c. search needs)
     sub-put-paragraph
     part-put-paragraph-start
     part-put-paragraph-end
@@ -127,6 +115,6 @@ tell-spec =
     add-start
     loop-less
     loop-again
-    enum-told
+    (λ c. search needs)
     same-length
     returns-3)

@@ -5,17 +5,8 @@ use Rattle.search.specs.Answer.{findingPlace}
 use Rattle.search.proofs.Finding.place.Statement.{statement}
 use Rattle.search.proofs.Finding.place.Tie as tie
 
-enum-known-self : tie.Need-enum-known-self
-enum-known-self c = search needs
-
-enum-told : tie.Need-enum-told
-enum-told c = search needs
-
 returns : tie.Need-returns
 returns c = sym (ap findingPlace (c .before .self .given .1))
 
-returns-2 : tie.Need-returns-2
-returns-2 c = search needs
-
 pub place-spec : {M : Type 1} → statement M
-place-spec = tie.close (tie.spec enum-known-self enum-told returns returns-2)
+place-spec = tie.close (tie.spec (λ c. search needs) (λ c. search needs) returns (λ c. search needs))

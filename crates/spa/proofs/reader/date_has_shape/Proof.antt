@@ -5,18 +5,6 @@ use borrow.Author.Needs.{needs}
 use Rattle.spa.proofs.reader.date_has_shape.Statement.{statement}
 use Rattle.spa.proofs.reader.date_has_shape.Tie as tie
 
-slice-aggregate-text-at : tie.Need-slice-aggregate-text-at
-slice-aggregate-text-at c = search needs
-
-text-at-requires : tie.Need-text-at-requires
-text-at-requires c κs = search needs
-
-pairs-at-requires : tie.Need-pairs-at-requires
-pairs-at-requires c κs = search needs
-
-is-at-requires : tie.Need-is-at-requires
-is-at-requires c κs = search needs
-
 returns : tie.Need-returns
 unfolding shape
 returns c = simp (c .before .before .text-at .ensures, c .before .pairs-at .ensures, c .is-at .ensures, and-assoc, and-true)
@@ -24,4 +12,4 @@ returns c = simp (c .before .before .text-at .ensures, c .before .pairs-at .ensu
 pub date-has-shape-spec : {M : Type 1} → statement M
 date-has-shape-spec =
     tie.close
-    (tie.spec slice-aggregate-text-at text-at-requires pairs-at-requires is-at-requires returns)
+    (tie.spec (λ c. search needs) (λ c κs. search needs) (λ c κs. search needs) (λ c κs. search needs) returns)

@@ -5,21 +5,6 @@ use borrow.Author.Needs.{needs}
 use Rattle.spa.proofs.reader.end_has_shape.Statement.{statement}
 use Rattle.spa.proofs.reader.end_has_shape.Tie as tie
 
-sub-are-hex : tie.Need-sub-are-hex
-sub-are-hex c = search needs
-
-part-are-hex-start : tie.Need-part-are-hex-start
-part-are-hex-start c = search needs
-
-part-are-hex-end : tie.Need-part-are-hex-end
-part-are-hex-end c = search needs
-
-are-hex-requires : tie.Need-are-hex-requires
-are-hex-requires c κs = search needs
-
-is-at-requires : tie.Need-is-at-requires
-is-at-requires c κs = search needs
-
 returns : tie.Need-returns
 unfolding shape
 returns c = simp (c .before .are-hex .ensures, c .is-at .ensures, and-true)
@@ -28,9 +13,9 @@ pub end-has-shape-spec : {M : Type 1} → statement M
 end-has-shape-spec =
     tie.close
     (tie.spec
-    sub-are-hex
-    part-are-hex-start
-    part-are-hex-end
-    are-hex-requires
-    is-at-requires
+    (λ c. search needs)
+    (λ c. search needs)
+    (λ c. search needs)
+    (λ c κs. search needs)
+    (λ c κs. search needs)
     returns)

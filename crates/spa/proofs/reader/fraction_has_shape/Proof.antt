@@ -5,19 +5,10 @@ use borrow.Author.Needs.{needs}
 use Rattle.spa.proofs.reader.fraction_has_shape.Statement.{statement}
 use Rattle.spa.proofs.reader.fraction_has_shape.Tie as tie
 
-is-at-requires : tie.Need-is-at-requires
-is-at-requires c κs = search needs
-
-digits-at-requires : tie.Need-digits-at-requires
-digits-at-requires c κs = search needs
-
-is-at-requires-2 : tie.Need-is-at-requires-2
-is-at-requires-2 c κs = search needs
-
 returns : tie.Need-returns
 unfolding shape
 returns c = simp (c .before .before .is-at .ensures, c .before .digits-at .ensures, c .is-at2 .ensures, and-assoc, and-true)
 
 pub fraction-has-shape-spec : {M : Type 1} → statement M
 fraction-has-shape-spec =
-    tie.close (tie.spec is-at-requires digits-at-requires is-at-requires-2 returns)
+    tie.close (tie.spec (λ c κs. search needs) (λ c κs. search needs) (λ c κs. search needs) returns)

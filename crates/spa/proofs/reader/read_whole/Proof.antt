@@ -13,18 +13,6 @@ use Rattle.spa.proofs.reader.read_whole.Tie as tie
 returns : tie.Need-returns
 returns c = sym (wrong-length spa _ (c .if1 .taken))
 
-has-shape-requires : tie.Need-has-shape-requires
-has-shape-requires c κs = search needs
-
-sum-holds-requires : tie.Need-sum-holds-requires
-sum-holds-requires c κs = search needs
-
-spelled-requires : tie.Need-spelled-requires
-spelled-requires c κs = search needs
-
-in-range-requires : tie.Need-in-range-requires
-in-range-requires c κs = search needs
-
 returns-2 : tie.Need-returns-2
 returns-2 c =
     let s = now (c .before .before .before .before .before .before .before .before .before .args .s) in
@@ -55,10 +43,10 @@ read-whole-spec =
     tie.close
     (tie.spec
     returns
-    has-shape-requires
-    sum-holds-requires
-    spelled-requires
-    in-range-requires
+    (λ c κs. search needs)
+    (λ c κs. search needs)
+    (λ c κs. search needs)
+    (λ c κs. search needs)
     returns-2
     returns-3
     returns-4

@@ -7,15 +7,6 @@ use borrow.Author.Needs.{needs}
 use Rattle.spa.proofs.writer.store.Statement.{statement}
 use Rattle.spa.proofs.writer.store.Tie as tie
 
-store-front-requires : tie.Need-store-front-requires
-store-front-requires c κs = search needs
-
-store-end-requires : tie.Need-store-end-requires
-store-end-requires c κs = search needs
-
-same-length : tie.Need-same-length
-same-length c = search needs
-
 returns : tie.Need-returns
 returns c =
     let a = c .before .before .before .before .before .before .before .before .before .args in
@@ -23,4 +14,4 @@ returns c =
     c .before .before .store-end .ensures ∙ ap endStored (c .before .before .before .before .before .before .store-front .ensures) ∙ end-stored (a .r) (p .1) (now (a .out)) (p .0)
 
 pub store-spec : {M : Type 1} → statement M
-store-spec = tie.close (tie.spec store-front-requires store-end-requires same-length returns)
+store-spec = tie.close (tie.spec (λ c κs. search needs) (λ c κs. search needs) (λ c. search needs) returns)

@@ -5,15 +5,6 @@ use Rattle.record.specs.Answers.{readRecord}
 use Rattle.record.proofs.answer.Reading.record.Statement.{statement}
 use Rattle.record.proofs.answer.Reading.record.Tie as tie
 
-enum-known-self : tie.Need-enum-known-self
-enum-known-self c = search needs
-
-enum-told : tie.Need-enum-told
-enum-told c = search needs
-
-empty-requires : tie.Need-empty-requires
-empty-requires c κs = search needs
-
 returns : tie.Need-returns
 returns c = sym (ap readRecord (c .before .self .given .1))
 
@@ -21,4 +12,4 @@ returns-2 : tie.Need-returns-2
 returns-2 c = c .empty .ensures ∙ sym (ap readRecord (c .before .enum-told .given .1))
 
 pub record-spec : {M : Type 1} → statement M
-record-spec = tie.close (tie.spec enum-known-self enum-told empty-requires returns returns-2)
+record-spec = tie.close (tie.spec (λ c. search needs) (λ c. search needs) (λ c κs. search needs) returns returns-2)
