@@ -1,5 +1,5 @@
 #!/usr/bin/env python3
-"""The benchmark: MB/s and instructions per byte, of the library and of the second program, all in one run.
+"""The benchmark: MB/s and instructions per byte, of the library and of the reference program, all in one run.
 
     scripts/bench.py [--quick]
 
@@ -22,11 +22,8 @@ COUNTED = 200_000
 
 def build():
     target = os.path.join(ROOT, "target", "cargo")
-    for crate in ("compare", "second"):
-        manifest = os.path.join(ROOT, crate, "Cargo.toml")
-        command = ["cargo", "build", "--release", "--quiet", "--offline", "--manifest-path", manifest, "--target-dir", target]
-        subprocess.run(command, check=True)
-    return os.path.join(target, "release", "bench"), os.path.join(target, "release", "second")
+    subprocess.run(["cargo", "build", "--release", "--quiet", "--offline", "--workspace", "--target-dir", target], check=True, cwd=ROOT)
+    return os.path.join(target, "release", "bench"), os.path.join(target, "release", "reference")
 
 
 def speed(bench, way, form, kind, size):
@@ -49,15 +46,15 @@ def row(cells):
 
 
 def found_table(bench):
-    row(["form", "stream", "search MB/s", "its instr/byte", "second's search MB/s", "ratio",
-         "listener MB/s", "its instr/byte", "second's listener MB/s", "ratio", "feed instr/byte", "feed_all instr/byte"])
+    row(["form", "stream", "search MB/s", "its instr/byte", "reference's search MB/s", "ratio",
+         "listener MB/s", "its instr/byte", "reference's listener MB/s", "ratio", "feed instr/byte", "feed_all instr/byte"])
     row(["---"] * 12)
     for form, name in NAMES.items():
         for kind in KINDS if form in (1, 3) or not QUICK else ("dense",):
             found, search = speed(bench, "search", form, kind, BYTES)
-            same, other = speed(bench, "second-search", form, kind, BYTES)
+            same, other = speed(bench, "reference-search", form, kind, BYTES)
             heard, marks = speed(bench, "mark", form, kind, SLOW)
-            again, slow = speed(bench, "second-listen", form, kind, SLOW)
+            again, slow = speed(bench, "reference-listen", form, kind, SLOW)
             if found != same or heard != again:
                 sys.exit(f"bench: form {form}, {kind}: not the same records")
             counts = {way: f"{per_byte(bench, way, form, kind):.1f}" for way in ("search", "mark", "feed", "feed_all")}
@@ -75,23 +72,23 @@ def timed(command, data):
     return len(data) / best / 1e6
 
 
-def heard_table(second):
+def heard_table(reference):
     heard = os.path.join(ROOT, "target", "bin", "heard")
     string = b"\x02D:01.01.24;T:1;U:12.00.00;  U \x03"
-    row(["heard, form 1", "bytes", "MB/s", "second's heard MB/s", "ratio"])
+    row(["heard, form 1", "bytes", "MB/s", "reference's heard MB/s", "ratio"])
     row(["---"] * 5)
     for name, piece in (("strings back to back", string), ("one string in 960 bytes", b"D:0" * 309 + b"~" + string)):
         for size in (200_000, 20_000_000):
             data = b"1\n" + piece * (size // len(piece))
-            ours, other = timed([heard], data), timed([second, "heard"], data[: 2_000_000])
+            ours, other = timed([heard], data), timed([reference, "heard"], data[: 2_000_000])
             row([name, str(len(data)), f"{ours:.0f}", f"{other:.1f}", f"{ours / other:.1f}"])
 
 
 def main():
-    bench, second = build()
+    bench, reference = build()
     found_table(bench)
     print()
-    heard_table(second)
+    heard_table(reference)
 
 
 if __name__ == "__main__":

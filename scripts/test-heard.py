@@ -2,14 +2,15 @@
 """Runs target/bin/heard on streams with known output.
 
     scripts/test-heard.py                   run them all
-    scripts/test-heard.py --second PROGRAM  besides, ask the second program (second/) what each stream holds
-    scripts/test-heard.py --self-check      plant a wrong byte in every expected output, and want it noticed
+    scripts/test-heard.py --reference PROGRAM  besides, ask the reference program (reference/program) what each stream holds
+    scripts/test-heard.py --self-check      plant faults in the expected outputs and in the choice of runs, and want them noticed
 
 tests/heard has an input NAME.in and the output NAME.out for each stream. `example` is that of the scope paper, `line_*`
-follow from its sentence on bad first lines, and all other outputs are the second program's. `sample` is the recording in
+follow from its sentence on bad first lines, and all other outputs are the reference program's. `sample` is the recording in
 samples/. The long streams are made here out of known strings.
 
-Each stream goes in four ways: as a file, through a pipe, and in reads of 1 and of 7 bytes.
+Each stored stream goes in four ways: as a file, through a pipe, and in reads of 1 and of 7 bytes. Each long stream goes in as a
+file, through a pipe and in reads of 7 bytes.
 """
 import os
 import pathlib
@@ -97,6 +98,7 @@ def in_reads_of(size):
     return run
 
 
+LONG_WAYS = ("file", "pipe", "reads of 7")
 WAYS = {"file": from_file, "pipe": from_pipe, "reads of 1": in_reads_of(1), "reads of 7": in_reads_of(7)}
 
 
@@ -106,9 +108,14 @@ def runs():
         for way in WAYS:
             yield name, way, given, expected
     for name, given, expected in long_cases():
-        yield name, "file", given, expected
-    for way in ("pipe", "reads of 7"):
-        yield name, way, given, expected
+        for way in LONG_WAYS:
+            yield name, way, given, expected
+
+
+def gaps(all_runs):
+    """The ways by which no long stream with records in it goes in."""
+    taken = {way for _, way, given, expected in all_runs if len(given) > 2 * PIECE and expected.count(b"\n\n") > 1000}
+    return [way for way in LONG_WAYS if way not in taken]
 
 
 def disagreements(all_runs):
@@ -119,33 +126,40 @@ def disagreements(all_runs):
     return wrong
 
 
-def told_by(second, given):
-    """What heard has to print, by the second program's listener."""
+def told_by(reference, given):
+    """What heard has to print, by the reference program's listener."""
     form, stream = given[:1].decode(), given[2:]
     request = "listen %s %s\n" % (form, stream.hex() or "-")
-    answer = subprocess.run([second], input=request, capture_output=True, text=True, timeout=SECONDS).stdout.strip()
+    answer = subprocess.run([reference], input=request, capture_output=True, text=True, timeout=SECONDS).stdout.strip()
     records = [] if answer == "-" else [bytes.fromhex(word.split(":")[1]) for word in answer.split(" ")]
     return b"".join(record + b"\n" for record in records) + end_line(len(stream), len(records))
 
 
-def check_second(second):
+def check_reference(reference):
     cases = [case for case in [*stored_cases(), *long_cases()] if not case[0].startswith("line_")]
-    wrong = [name for name, given, expected in cases if told_by(second, given) != expected]
+    wrong = [name for name, given, expected in cases if told_by(reference, given) != expected]
     if wrong:
-        sys.exit("heard: the second program tells another output: " + ", ".join(wrong))
-    print("heard: %d outputs are those of the second program" % len(cases))
+        sys.exit("heard: the reference program tells another output: " + ", ".join(wrong))
+    print("heard: %d outputs are those of the reference program" % len(cases))
+
+
+def with_a_wrong_byte(expected):
+    place = len(expected) // 2
+    return expected[:place] + bytes([expected[place] ^ 1]) + expected[place + 1 :]
 
 
 def self_check():
-    planted = []
-    for name, way, given, expected in runs():
-        place = len(expected) // 2
-        other = bytes([expected[place] ^ 1])
-        planted.append((name, way, given, expected[:place] + other + expected[place + 1 :]))
+    """A wrong byte in each expected output is noticed, and so are long streams of noise alone in place of those with records."""
+    all_runs = list(runs())
+    planted = [(name, way, given, with_a_wrong_byte(expected)) for name, way, given, expected in all_runs]
     noticed = disagreements(planted)
     if len(noticed) != len(planted):
         sys.exit("heard: %d of %d wrong bytes were not noticed" % (len(planted) - len(noticed), len(planted)))
-    print("heard: %d wrong bytes noticed" % len(planted))
+    for missing in LONG_WAYS:
+        fewer = [run for run in all_runs if run[1] != missing or run[0] == "long_noise" or not run[0].startswith("long_")]
+        if gaps(fewer) != [missing]:
+            sys.exit("heard: that only noise goes in as a long stream (%s) was not noticed" % missing)
+    print("heard: %d wrong bytes and %d missing long streams noticed" % (len(planted), len(LONG_WAYS)))
 
 
 def main(words):
@@ -153,11 +167,13 @@ def main(words):
         sys.exit("heard: no target/bin/heard; run `rt check heard` first")
     if words == ["--self-check"]:
         return self_check()
-    if len(words) == 2 and words[0] == "--second":
-        check_second(words[1])
+    if len(words) == 2 and words[0] == "--reference":
+        check_reference(words[1])
     elif words:
         sys.exit(__doc__)
     all_runs = list(runs())
+    if gaps(all_runs):
+        sys.exit("heard: no long stream with records goes in by " + ", ".join(gaps(all_runs)) + "; see runs()")
     wrong = disagreements(all_runs)
     if wrong:
         sys.exit("heard: %d of %d runs disagree: %s" % (len(wrong), len(all_runs), ", ".join(wrong)))

@@ -1,22 +1,16 @@
--- What lines tell at their columns: a line at a column is the line at the head of the part from there on, and a slot that one
--- line alone has is told there.
+-- A line at a column is the line at the head of the part from there on, and a slot is told by the row that has it.
 use mathlib.Core.Path.{_≡_, refl, sym, _∙_, ap, ap₂}
 use mathlib.Core.Bool.{Bool, true, false, _&&_, _||_, false≢true}
 use mathlib.Core.List.{List, [], _∷_, _++_}
-use Prim.Native.Nat.{ℕ, zero, suc, _+_, _<_}
+use Prim.Native.Nat.{ℕ, _+_}
 use native.Mathlib.Nat.{zero-add}
 use native.Mathlib.Omega.{arith}
-use borrow.Author.Tests.{not-true}
-use lib.ListN.{length, take, drop, getD}
+use lib.ListN.{take, drop}
 use lib.Seq.{drop-drop}
 use Rattle.choice.specs.Pick.{pick}
-use Rattle.choice.proofs.Tests.{both}
-use Rattle.forms.specs.Block.{Line, chosenRow, layoutAt}
+use Rattle.forms.specs.Block.{Line, layoutAt}
 use Rattle.forms.specs.Places.{Row, fits, has, isOf, rowWidth, shape, valueAt, values, width}
 use Rattle.forms.specs.Slots.{Slot}
-use Rattle.forms.proofs.Append.{width-append}
-use Rattle.forms.proofs.Lines.{choice-head, everyLayout, isChoice, lacks, lacks-row, layout-passes, layoutIn, onlyIn}
-use Rattle.block.proofs.Chosen.{rowOf}
 
 -- a column
 
@@ -67,7 +61,7 @@ module _ (s : List ℕ) (f : Slot) where
       go true q n = absurd (false≢true (sym q))
       go false q n = n q
 
-  values-append : (a b : Row) (k : ℕ) → values (a ++ b) k s f ≡ pick (has a f) (values a k s f) (values b (rowWidth a + k) s f)
+  pub values-append : (a b : Row) (k : ℕ) → values (a ++ b) k s f ≡ pick (has a f) (values a k s f) (values b (rowWidth a + k) s f)
   unfolding has values rowWidth
   values-append [] b k = ap (λ (n : ℕ). values b n s f) (sym (zero-add k))
   values-append (p ∷ a) b k =
@@ -79,28 +73,3 @@ module _ (s : List ℕ) (f : Slot) where
           ≡ pick (t || has a f) (pick t (valueAt p (take (width p) (drop k s))) (values a (width p + k) s f)) (values b (width p + rowWidth a + k) s f)
       go true q = refl
       go false q = q
-
-  -- the column of line i is the width of the lines before it
-  pub value-in : (ls : List Line) (cs : List ℕ) → isChoice ls cs ≡ true → (i k : ℕ) → i < length ls → onlyIn ls i f ≡ true
-      → values (chosenRow ls cs) k s f ≡ values (layoutIn ls cs i) (rowWidth (rowOf ls cs i) + k) s f
-  unfolding isChoice onlyIn chosenRow
-  value-in [] cs h i k l o = absurd (omega (arith, l))
-  value-in (l ∷ ls) [] h i k b o = absurd (false≢true h)
-  value-in (l ∷ ls) (c ∷ cs) h zero k b o =
-      let e : k ≡ rowWidth [] + k = unfold rowWidth in sym (zero-add k) in
-      let n = values-none (chosenRow ls cs) (rowWidth (getD l c []) + k) (lacks-row f ls cs (choice-head l ls c cs h .1) o) in
-      values-append (getD l c []) (chosenRow ls cs) k ∙ go (has (getD l c []) f) refl n ∙ ap (λ (j : ℕ). values (getD l c []) j s f) e
-    where
-      go : (t : Bool) → has (getD l c []) f ≡ t → values (chosenRow ls cs) (rowWidth (getD l c []) + k) s f ≡ 0
-          → pick t (values (getD l c []) k s f) (values (chosenRow ls cs) (rowWidth (getD l c []) + k) s f) ≡ values (getD l c []) k s f
-      go true q n = refl
-      go false q n = n ∙ sym (values-none (getD l c []) k q)
-  value-in (l ∷ ls) (c ∷ cs) h (suc i) k b o =
-      let m = choice-head l ls c cs h in
-      let d = both (everyLayout (lacks f) l) (onlyIn ls i f) o in
-      let n = not-true (has (getD l c []) f) (layout-passes (lacks f) l c (m .0) (d .0)) in
-      let e : rowWidth (rowOf ls cs i) + (rowWidth (getD l c []) + k) ≡ rowWidth (getD l c [] ++ rowOf ls cs i) + k = omega (arith, width-append (getD l c []) (rowOf ls cs i)) in
-      values-append (getD l c []) (chosenRow ls cs) k
-      ∙ ap (λ (t : Bool). pick t (values (getD l c []) k s f) (values (chosenRow ls cs) (rowWidth (getD l c []) + k) s f)) n
-      ∙ value-in ls cs (m .1) i (rowWidth (getD l c []) + k) (omega arith) (d .1)
-      ∙ ap (λ (j : ℕ). values (layoutIn ls cs i) j s f) e

@@ -4,7 +4,7 @@ use mathlib.Core.List.{List, _++_}
 use Prim.Native.Nat.{ℕ, _+_, _-_, _≤_, _<_}
 use lib.ListN.{length, take, drop}
 use Rattle.record.specs.declared.Record.{Record}
-use Rattle.forms.specs.Block.{blockLines, blockOf, choices}
+use Rattle.forms.specs.Block.{blockLines, blockOf, choices, firstEdition}
 use Rattle.forms.specs.Places.{Row, rowWidth}
 use Rattle.forms.specs.Told.{told}
 use Rattle.layout.specs.Stores.{stores}
@@ -24,12 +24,12 @@ module _ (r : Record) where
   unfolding rowTo stores
   none-stored o = sym (ap (λ (ps : Row). stores ps 0 (told r) o) (row-none blockLines (choices r)))
 
-  pub all-lines : (i : ℕ) → i ≡ 14 → rowTo r i ≡ blockOf r .row
+  pub all-lines : (i : ℕ) → i ≡ 14 → rowTo r i ≡ blockOf firstEdition r .row
   unfolding rowTo blockOf
   all-lines i e = row-all blockLines (choices r) i e e
 
   module _ (i : ℕ) (h : i < 14) where
-    pub line-room : rowWidth (rowTo r i) + rowWidth (lineOf r i) ≤ blockOf r .size
+    pub line-room : rowWidth (rowTo r i) + rowWidth (lineOf r i) ≤ blockOf firstEdition r .size
     unfolding rowTo lineOf blockOf
     line-room = row-room blockLines (choices r) i h h
 

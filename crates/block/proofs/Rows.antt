@@ -1,13 +1,12 @@
 -- What the lines of a record's block come to: each flag's line, the size of the whole, and the bytes of the form.
 use mathlib.Core.Path.{_≡_, refl, sym, _∙_, ap}
-use mathlib.Core.Bool.{Bool, true, false}
+use mathlib.Core.Bool.{true}
 use mathlib.Core.List.{List, [], _++_}
 use Prim.Native.Nat.{ℕ, _+_, _≤_}
 use Prim.Native.String.{String}
 use native.Mathlib.Omega.{arith}
 use lib.ListN.{length, drop, getD, set}
 use lib.Seq.{sets}
-use Rattle.choice.specs.Pick.{pick}
 use Rattle.spelling.specs.Bytes.{text}
 use Rattle.record.specs.declared.Date.{Date}
 use Rattle.record.specs.declared.Date.the-variants as dateIs
@@ -21,17 +20,21 @@ use Rattle.record.specs.declared.Position.{Position}
 use Rattle.record.specs.declared.Position.the-variants as positionIs
 use Rattle.record.specs.declared.Record.{Record}
 use Rattle.record.specs.Record.{isGood}
-use Rattle.forms.specs.Block.{blockOf, choices, chosenRow, dateChoice, dateLine, flagChoice, flagLine, fractionChoice, fractionLine, offsetChoice, offsetLine, positionChoice, positionLine}
-use Rattle.forms.specs.Form.{bytesBy, carries}
+use Rattle.forms.specs.Block.{blockOf, choices, chosenRow, dateLine, firstEdition, flagLine, fractionLine, offsetLine, positionLine}
+use Rattle.forms.specs.Fields.Date.{dateChoice}
+use Rattle.forms.specs.Fields.Flag.{flagChoice}
+use Rattle.forms.specs.Fields.Fraction.{fractionChoice}
+use Rattle.forms.specs.Fields.Offset.{offsetChoice}
+use Rattle.forms.specs.Fields.Position.{positionChoice}
+use Rattle.forms.specs.Form.{bytesBy, carries, isExpressible}
 use Rattle.forms.specs.Needs.{hasAll}
-use Rattle.forms.specs.Places.{allWorded, bytesOf, rowWidth}
-use Rattle.forms.specs.Slots.{Slot, Values, change, dsp, fix, leap, lsp, same, sum, summer, sync, utc}
+use Rattle.forms.specs.Places.{bytesOf, rowWidth}
+use Rattle.forms.specs.Slots.{Slot, Values, change, dsp, fix, leap, lsp, summer, sync, utc}
 use Rattle.forms.specs.Told.{told}
 use Rattle.forms.proofs.Append.{width-append}
 use Rattle.forms.proofs.BlockRecord.{own-choice, own-complete, own-worded}
 use Rattle.forms.proofs.BlockRow.{block-sound}
-use Rattle.forms.proofs.Choices.{channel-width}
-use Rattle.forms.proofs.Slots.{same-slot}
+use Rattle.forms.proofs.Choices.{channel-own}
 use Rattle.forms.proofs.Sound.{SoundForm}
 use Rattle.forms.proofs.WriteRead.{written, written-roomy}
 use Rattle.layout.specs.Stores.{stores}
@@ -96,14 +99,14 @@ flag-size-of key f flagIs.No = flag-width key f flagIs.No
 flag-size-of key f flagIs.Yes = flag-width key f flagIs.Yes
 
 module _ (r : Record) where
-  pub block-size : blockOf r .size
+  pub block-size : blockOf firstEdition r .size
       ≡ dateSize (r .date) + fractionSize (r .fraction) + (flagSize (r .sync) + flagSize (r .fix) + flagSize (r .utc) + flagSize (r .summer))
       + (flagSize (r .change) + flagSize (r .leap) + flagSize (r .dsp) + flagSize (r .lsp)) + offsetSize (r .offset) + positionSize (r .position) + 72
   unfolding blockOf chosenRow rowWidth
   block-size =
       let x1 = date-size (r .date) in
       let x2 = fraction-size (r .fraction) in
-      let x3 = channel-width (r .channel) in
+      let x3 = channel-own (r .channel) in
       let x4 = flag-size-of "sync=" sync (r .sync) in
       let x5 = flag-size-of "fix=" fix (r .fix) in
       let x6 = flag-size-of "utc=" utc (r .utc) in
@@ -117,33 +120,29 @@ module _ (r : Record) where
       simp width-append (omega arith)
 
   -- the values that the form writes are the record's: it has no sum
-  no-sum : (f : Slot) → told r f ≡ written (blockOf r) r f
+  no-sum : (f : Slot) → told r f ≡ written (blockOf firstEdition r) r f
   unfolding blockOf
-  no-sum f = go (same f sum) refl
-    where
-      go : (t : Bool) → same f sum ≡ t → told r f ≡ pick t 0 (told r f)
-      go true e = ap (told r) (same-slot f sum e)
-      go false e = refl
+  no-sum f = refl
 
-  own-sound : SoundForm (blockOf r)
+  own-sound : SoundForm (blockOf firstEdition r)
   unfolding blockOf
   own-sound = block-sound (choices r) (own-choice r)
 
   -- "form 9 never" asks for a field, and it has a word for every record
-  pub block-complete : hasAll (carries (blockOf r)) r ≡ true
+  pub block-complete : hasAll (carries (blockOf firstEdition r)) r ≡ true
   unfolding blockOf
   block-complete = own-complete r
 
-  pub block-worded : isGood r ≡ true → allWorded (blockOf r .row) (told r) ≡ true
+  pub block-worded : isGood r ≡ true → isExpressible (blockOf firstEdition r .row) (told r) ≡ true
   unfolding blockOf
   block-worded g = own-worded r g
 
-  pub block-stored : isGood r ≡ true → (o : List ℕ) → blockOf r .size ≤ length o
-      → stores (blockOf r .row) 0 (told r) o ≡ bytesBy (blockOf r) (told r) ++ drop (blockOf r .size) o
+  pub block-stored : isGood r ≡ true → (o : List ℕ) → blockOf firstEdition r .size ≤ length o
+      → stores (blockOf firstEdition r .row) 0 (told r) o ≡ bytesBy (blockOf firstEdition r) (told r) ++ drop (blockOf firstEdition r .size) o
   unfolding bytesBy
   block-stored g o h =
       let e = own-sound .sized in
-      let q : 0 + rowWidth (blockOf r .row) ≡ blockOf r .size = omega arith in
-      stores-same (blockOf r .row) 0 (told r) (written (blockOf r) r) o no-sum
-      ∙ stores-laid (blockOf r .row) 0 (written (blockOf r) r) o (own-sound .rowSound) (written-roomy (blockOf r) own-sound r g (block-worded g)) (omega arith)
-      ∙ ap (λ (n : ℕ). bytesOf (blockOf r .row) (written (blockOf r) r) ++ drop n o) q
+      let q : 0 + rowWidth (blockOf firstEdition r .row) ≡ blockOf firstEdition r .size = omega arith in
+      stores-same (blockOf firstEdition r .row) 0 (told r) (written (blockOf firstEdition r) r) o no-sum
+      ∙ stores-laid (blockOf firstEdition r .row) 0 (written (blockOf firstEdition r) r) o (own-sound .rowSound) (written-roomy (blockOf firstEdition r) own-sound r g (block-worded g)) (omega arith)
+      ∙ ap (λ (n : ℕ). bytesOf (blockOf firstEdition r .row) (written (blockOf firstEdition r) r) ++ drop n o) q

@@ -1,5 +1,3 @@
 pub mod Lines
 pub mod Sizes
-pub mod Behind
-pub mod Groups
-pub mod Judged
+pub mod Reading

@@ -1,5 +1,5 @@
 // The block, form 9: "Lines closed by LF, these keys in this order".
-mod groups;
+mod line;
 mod reader;
 mod size;
 mod writer;

@@ -1,7 +1,7 @@
 // How many bytes a record's block has.
 ghost use mathlib.Core.Path.{_≡_};
 ghost use Prim.Native.Nat.{_≤_};
-ghost use Rattle.forms.specs.Block.{blockOf};
+ghost use Rattle.forms.specs.Block.{blockOf, firstEdition};
 ghost use Rattle.block.specs.Sizes.{dateSize, flagSize, fractionSize, offsetSize, positionSize};
 use record::Date;
 use record::Flag;
@@ -69,7 +69,7 @@ fn position_size(position: Position) -> usize
 
 // All keys, the time, the channel and each LF are there in every block.
 pub fn size(r: Record) -> usize
-    ensures { λ n. ⌜ n ≡ blockOf r .size ⌝ }
+    ensures { λ n. ⌜ n ≡ blockOf firstEdition r .size ⌝ }
 {
     let date = r.date;
     let fraction = r.fraction;

@@ -1,5 +1,5 @@
 -- A row that ends in fixed bytes fits no bytes that are shorter than it.
-use mathlib.Core.Path.{_≡_, refl, ap}
+use mathlib.Core.Path.{_≡_, refl, sym, _∙_, ap}
 use mathlib.Core.Bool.{Bool, true, false, _&&_, and-true, false≢true}
 use mathlib.Core.List.{List, [], _∷_}
 use Prim.Native.Nat.{ℕ, suc, _+_, _≤_, _<_, min}
@@ -10,7 +10,8 @@ use Rattle.choice.proofs.Tests.{both}
 use Rattle.spelling.specs.Bytes.{areDigits, sameBytes}
 use Rattle.spelling.proofs.SameBytes.{same-bytes}
 use Rattle.forms.specs.Places.{Place, Row, fits, fixed, part, rowWidth, shape, width}
-use Rattle.block_lines.specs.Found.{numberRow, wordRow}
+use Rattle.forms.specs.Slots.{Slot}
+use Rattle.block_lines.specs.Reading.{numberRow, wordRow}
 
 -- fixed bytes, at least one
 abbrev pub isText : Place → Bool
@@ -38,16 +39,9 @@ in-reach (p ∷ []) k s c h = omega (arith, text-reach p k s c (both (fits p (ta
 in-reach (p ∷ q ∷ ps) k s c h =
     omega (arith, in-reach (q ∷ ps) (width p + k) s c (both (fits p (take (width p) (drop k s))) (shape (q ∷ ps) (width p + k) s) h .1))
 
-text-wide : (p : Place) → isText p ≡ true → 0 < width p
-text-wide (fixed []) c = absurd (false≢true c)
-text-wide (fixed (b ∷ bs)) c = omega arith
-text-wide (part c f) d = absurd (false≢true d)
-
-pub closed-wide : (ps : Row) → isClosed ps ≡ true → 0 < rowWidth ps
-unfolding isClosed rowWidth
-closed-wide [] c = absurd (false≢true c)
-closed-wide (p ∷ []) c = omega (arith, text-wide p c)
-closed-wide (p ∷ q ∷ ps) c = omega (arith, closed-wide (q ∷ ps) c)
+-- a test that held says that the bytes reach
+pub fits-within : (ps : Row) (s : List ℕ) → isClosed ps ≡ true → (t : Bool) → t ≡ shape ps 0 s → t ≡ true → {k : ℕ} → k ≤ rowWidth ps → k ≤ length s
+fits-within ps s c t e h l = omega (arith, in-reach ps 0 s c (sym e ∙ h))
 
 pub too-short : (ps : Row) (s : List ℕ) → isClosed ps ≡ true → length s < rowWidth ps → false ≡ shape ps 0 s
 too-short ps s c h = go (shape ps 0 s) refl
@@ -67,10 +61,10 @@ module _ (key s : List ℕ) where
       let e : length key + 0 ≡ length key = omega arith in
       rw (q, e, and-true)
 
-  pub number-shape : (w : ℕ) → shape (numberRow key w) 0 s
+  pub number-shape : (w : ℕ) (f : Slot) → shape (numberRow key w f) 0 s
       ≡ (sameBytes (take (length key) (drop 0 s)) key && (areDigits (take w (drop (length key) s)) && sameBytes (take 1 (drop (length key + w) s)) (10 ∷ [])))
   unfolding shape
-  number-shape w =
+  number-shape w f =
       let q : w + (length key + 0) ≡ length key + w = omega arith in
       let e : length key + 0 ≡ length key = omega arith in
       rw (q, e, and-true)
@@ -78,5 +72,5 @@ module _ (key s : List ℕ) where
   pub word-closed : (word : List ℕ) → length s ≤ length key + length word → false ≡ shape (wordRow key word) 0 s
   word-closed word h = too-short (wordRow key word) s (unfold isClosed in refl) (unfold rowWidth in omega arith)
 
-  pub number-closed : (w : ℕ) → length s ≤ length key + w → false ≡ shape (numberRow key w) 0 s
-  number-closed w h = too-short (numberRow key w) s (unfold isClosed in refl) (unfold rowWidth in omega arith)
+  pub number-closed : (w : ℕ) (f : Slot) → length s ≤ length key + w → false ≡ shape (numberRow key w f) 0 s
+  number-closed w f h = too-short (numberRow key w f) s (unfold isClosed in refl) (unfold rowWidth in omega arith)

@@ -10,9 +10,11 @@ use Rattle.record.specs.declared.Offset.the-variants as offsetIs
 use Rattle.record.specs.declared.Position.{Position}
 use Rattle.record.specs.declared.Position.the-variants as positionIs
 use Rattle.record.specs.declared.Record.{Record}
-use Rattle.forms.specs.Block.{offsetChoice, offsetLine, positionChoice, positionLine}
+use Rattle.forms.specs.Block.{offsetLine, positionLine}
+use Rattle.forms.specs.Fields.Offset.{minusTold, minutesTold, offsetChoice}
+use Rattle.forms.specs.Fields.Position.{altitudeTold, latitudeTold, longitudeTold, positionChoice, southTold, westTold}
 use Rattle.forms.specs.Places.{rowWidth}
-use Rattle.forms.specs.Told.{altitudeTold, latitudeTold, longitudeTold, minusTold, minutesTold, southTold, told, westTold}
+use Rattle.forms.specs.Told.{told}
 use Rattle.fields.specs.Signs.{isMinus, isSouth, isWest}
 use Rattle.layout.specs.Stores.{stores}
 use Rattle.block_lines.specs.Stores.{Laid, offsetStored, positionStored}

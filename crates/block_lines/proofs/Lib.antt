@@ -1,3 +1,4 @@
 pub mod Closed
 pub mod Signs
 pub mod Laid
+pub mod Numbers

@@ -9,8 +9,7 @@ use lib.ListN.{length, getD, take, drop}
 use Rattle.record.specs.declared.Position.the-variants as positionIs
 use Rattle.record.specs.Sign.{signed}
 use Rattle.spelling.specs.Bytes.{letters, wordPlace}
-use Rattle.forms.specs.Form.{signTied}
-use Rattle.forms.specs.Spelled.{negative}
+use Rattle.forms.specs.Fields.Sign.{negative, signTied}
 use Rattle.layout.proofs.Letters.{sign-letter}
 
 no-minus-zero : (a e : Bool) → not (not a && e) ≡ (a || not e)

@@ -1,2 +1,3 @@
 pub mod Stores
-pub mod Found
+pub mod Reading
+pub mod Flags

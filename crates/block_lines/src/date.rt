@@ -3,20 +3,18 @@ ghost use mathlib.Core.Path.{_≡_};
 ghost use mathlib.Core.List.{[]};
 ghost use Prim.Native.Nat.{_≤_};
 ghost use lib.ListN.{length, getD};
-ghost use Rattle.forms.specs.Block.{dateChoice, dateLine, layoutAt};
+ghost use Rattle.forms.specs.Block.{dateLine};
+ghost use Rattle.forms.specs.Fields.Date.{dateChoice};
 ghost use Rattle.forms.specs.Places.{rowWidth, shape};
 ghost use Rattle.forms.specs.Told.{told};
-ghost use Rattle.block_lines.specs.Found.{dateFound};
+ghost use Rattle.block_lines.specs.Reading.{lineRead};
 ghost use Rattle.block_lines.specs.Stores.{Laid, dayStored, fullDateStored};
 use crate::line::has_word;
 use crate::line::put_word;
+use crate::state::Found;
+use crate::state::State;
 use record::Date;
 use record::Record;
-
-pub struct DateLine {
-    pub size: usize,
-    pub date: Date,
-}
 
 // `date=24-02-29`
 fn has_full_date(s: &[u8]) -> bool
@@ -40,35 +38,28 @@ fn has_day_of_year(s: &[u8]) -> bool
             & (layout::digits_at(s, 9, 3) & layout::is_at(s, 12, b'\n')))
 }
 
-pub fn read_date(s: &[u8]) -> DateLine
-    ensures { λ r. ⌜ r ≡ dateFound (layoutAt dateLine 0 (now (s .entry))) (now (s .entry)) ⌝ }
+pub fn read_date(s: &[u8], before: State) -> Found
+    ensures { λ r. ⌜ r ≡ lineRead dateLine (now (s .entry)) before ⌝ }
 {
     if has_word(b"date=", b"-", s) {
-        return DateLine {
-            size: 7,
-            date: Date::Absent,
-        };
+        return Found::Line(7, before);
     }
+    let r = before.known;
     if has_full_date(s) {
-        return DateLine {
-            size: 14,
-            date: Date::Full {
-                year: layout::number_at(s, 5, 2),
-                month: layout::number_at(s, 8, 2),
-                day: layout::number_at(s, 11, 2),
-            },
+        let date = Date::Full {
+            year: layout::number_at(s, 5, 2),
+            month: layout::number_at(s, 8, 2),
+            day: layout::number_at(s, 11, 2),
         };
+        let known = Record { date, ..r };
+        return Found::Line(14, State { known, ..before });
     }
     if has_day_of_year(s) {
-        return DateLine {
-            size: 13,
-            date: Date::DayOfYear(layout::number_at(s, 9, 3)),
-        };
+        let date = Date::DayOfYear(layout::number_at(s, 9, 3));
+        let known = Record { date, ..r };
+        return Found::Line(13, State { known, ..before });
     }
-    DateLine {
-        size: 0,
-        date: Date::Absent,
-    }
+    Found::Nothing
 }
 
 // `date=24-02-29`

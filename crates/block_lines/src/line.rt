@@ -1,10 +1,10 @@
-// A line of the block at the head of a lent part: a key, a value and LF. The size that a reader of a line answers is 0 where no
-// layout of the line fits.
+// A line of the block at the head of a lent part: a key, a value and LF.
 ghost use mathlib.Core.Path.{_≡_};
 ghost use Prim.Native.Nat.{_+_, _≤_, _<_};
 ghost use lib.ListN.{length};
 ghost use Rattle.forms.specs.Places.{shape};
-ghost use Rattle.block_lines.specs.Found.{numberRow, wordRow};
+ghost use Rattle.forms.specs.Slots.{Slot};
+ghost use Rattle.block_lines.specs.Reading.{numberRow, wordRow};
 ghost use Rattle.block_lines.specs.Stores.{numberStored, wordStored};
 
 // A line whose value is a word. Each writer of a line answers how many bytes it has.
@@ -49,7 +49,7 @@ pub fn has_word(key: &[u8], word: &[u8], s: &[u8]) -> bool
 // The line has a number of w digits.
 pub fn has_number(key: &[u8], w: usize, s: &[u8]) -> bool
     requires { ⌜ length (now key) + w ≤ 100 ⌝ }
-    ensures { λ r. ⌜ r ≡ shape (numberRow (now (key .entry)) w) 0 (now (s .entry)) ⌝ }
+    ensures { λ r. ⌜ ((f : Slot) → r ≡ shape (numberRow (now (key .entry)) w f) 0 (now (s .entry))) ⌝ }
 {
     let k = key.len();
     let end = k + w;

@@ -4,28 +4,21 @@ ghost use mathlib.Core.Bool.{true};
 ghost use mathlib.Core.List.{[]};
 ghost use Prim.Native.Nat.{_≤_};
 ghost use lib.ListN.{length, getD};
-ghost use Rattle.forms.specs.Block.{layoutAt, offsetChoice, offsetLine};
-ghost use Rattle.forms.specs.Carries.{inMinutes};
-ghost use Rattle.forms.specs.Form.{signTied};
+ghost use Rattle.forms.specs.Block.{offsetLine};
+ghost use Rattle.forms.specs.Fields.Offset.{inMinutes, minutesFrom, offsetChoice, offsetFrom};
+ghost use Rattle.forms.specs.Fields.Sign.{signTied};
 ghost use Rattle.forms.specs.Places.{rowWidth, shape, values};
 ghost use Rattle.forms.specs.Slots.{minus};
-ghost use Rattle.forms.specs.Spelled.{minutesFrom, offsetFrom};
 ghost use Rattle.forms.specs.Told.{told};
-ghost use Rattle.block_lines.specs.Found.{offsetFound};
+ghost use Rattle.block_lines.specs.Reading.{lineRead};
 ghost use Rattle.block_lines.specs.Stores.{Laid, offsetStored};
 use crate::line::has_word;
 use crate::line::put_word;
 use crate::sign::sign_agrees;
+use crate::state::Found;
+use crate::state::State;
 use record::Offset;
 use record::Record;
-
-// The offset, its minutes alone, and whether its sign agrees with it.
-pub struct OffsetLine {
-    pub size: usize,
-    pub offset: Offset,
-    pub minutes: u32,
-    pub tied: bool,
-}
 
 // `offset=+01:00`
 fn has_offset(s: &[u8]) -> bool
@@ -64,31 +57,25 @@ fn tied_at(s: &[u8]) -> bool
     sign_agrees(s, 7, minutes_at(s))
 }
 
-pub fn read_offset(s: &[u8]) -> OffsetLine
-    ensures { λ r. ⌜ r ≡ offsetFound (layoutAt offsetLine 0 (now (s .entry))) (now (s .entry)) ⌝ }
+pub fn read_offset(s: &[u8], before: State) -> Found
+    ensures { λ r. ⌜ r ≡ lineRead offsetLine (now (s .entry)) before ⌝ }
 {
     if has_word(b"offset=", b"-", s) {
-        return OffsetLine {
-            size: 9,
-            offset: Offset::Absent,
-            minutes: 0,
-            tied: true,
-        };
+        return Found::Line(9, before);
     }
     if has_offset(s) {
-        return OffsetLine {
-            size: 14,
-            offset: offset_at(s),
+        let r = before.known;
+        let offset = offset_at(s);
+        let known = Record { offset, ..r };
+        let state = State {
+            known,
             minutes: layout::number_at(s, 11, 2),
-            tied: tied_at(s),
+            zone: tied_at(s),
+            place: before.place,
         };
+        return Found::Line(14, state);
     }
-    OffsetLine {
-        size: 0,
-        offset: Offset::Absent,
-        minutes: 0,
-        tied: true,
-    }
+    Found::Nothing
 }
 
 // `offset=+01:00`

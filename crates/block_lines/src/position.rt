@@ -4,26 +4,21 @@ ghost use mathlib.Core.Bool.{true, _&&_};
 ghost use mathlib.Core.List.{[]};
 ghost use Prim.Native.Nat.{_+_, _≤_};
 ghost use lib.ListN.{length, getD};
-ghost use Rattle.forms.specs.Block.{layoutAt, positionChoice, positionLine};
-ghost use Rattle.forms.specs.Form.{signTied};
+ghost use Rattle.forms.specs.Block.{positionLine};
+ghost use Rattle.forms.specs.Fields.Position.{latitudeFrom, longitudeFrom, positionChoice, positionFrom};
+ghost use Rattle.forms.specs.Fields.Sign.{signTied};
 ghost use Rattle.forms.specs.Places.{rowWidth, shape, values};
 ghost use Rattle.forms.specs.Slots.{south, west};
-ghost use Rattle.forms.specs.Spelled.{latitudeFrom, longitudeFrom, positionFrom};
 ghost use Rattle.forms.specs.Told.{told};
-ghost use Rattle.block_lines.specs.Found.{degreesAt, degreesOf, positionFound};
+ghost use Rattle.block_lines.specs.Reading.{degreesAt, degreesOf, lineRead};
 ghost use Rattle.block_lines.specs.Stores.{Laid, degreesStored, positionStored};
 use crate::line::has_word;
 use crate::line::put_word;
 use crate::sign::sign_agrees;
+use crate::state::Found;
+use crate::state::State;
 use record::Position;
 use record::Record;
-
-// The position, and whether its signs agree with it.
-pub struct PositionLine {
-    pub size: usize,
-    pub position: Position,
-    pub tied: bool,
-}
 
 // `+047.3500`
 fn has_degrees(s: &[u8], at: usize) -> bool
@@ -78,28 +73,27 @@ fn tied_at(s: &[u8]) -> bool
     sign_agrees(s, 9, degrees_at(s, 9)) & sign_agrees(s, 19, degrees_at(s, 19))
 }
 
-pub fn read_position(s: &[u8]) -> PositionLine
-    ensures { λ r. ⌜ r ≡ positionFound (layoutAt positionLine 0 (now (s .entry))) (now (s .entry)) ⌝ }
+pub fn read_position(s: &[u8], before: State) -> Found
+    ensures { λ r. ⌜ r ≡ lineRead positionLine (now (s .entry)) before ⌝ }
 {
     if has_word(b"position=", b"-", s) {
-        return PositionLine {
-            size: 11,
-            position: Position::Absent,
-            tied: true,
-        };
+        return Found::Line(11, before);
     }
     if has_position(s) {
-        return PositionLine {
-            size: 34,
-            position: position_at(s),
-            tied: tied_at(s),
-        };
+        let r = before.known;
+        let position = position_at(s);
+        let known = Record { position, ..r };
+        let place = tied_at(s);
+        return Found::Line(
+            34,
+            State {
+                known,
+                place,
+                ..before
+            },
+        );
     }
-    PositionLine {
-        size: 0,
-        position: Position::Absent,
-        tied: true,
-    }
+    Found::Nothing
 }
 
 // `+047.3500`

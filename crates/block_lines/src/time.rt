@@ -6,16 +6,11 @@ ghost use lib.ListN.{length, getD};
 ghost use Rattle.forms.specs.Block.{timeLine};
 ghost use Rattle.forms.specs.Places.{shape};
 ghost use Rattle.forms.specs.Told.{told};
-ghost use Rattle.block_lines.specs.Found.{timeFound};
+ghost use Rattle.block_lines.specs.Reading.{lineRead};
 ghost use Rattle.block_lines.specs.Stores.{Laid};
+use crate::state::Found;
+use crate::state::State;
 use record::Record;
-
-pub struct TimeLine {
-    pub size: usize,
-    pub hour: u32,
-    pub minute: u32,
-    pub second: u32,
-}
 
 // `time=23:59:60`
 fn has_time(s: &[u8]) -> bool
@@ -27,24 +22,20 @@ fn has_time(s: &[u8]) -> bool
     layout::text_at(s, 0, b"time=") & (layout::pairs_at(s, 5, b':') & layout::is_at(s, 13, b'\n'))
 }
 
-pub fn read_time(s: &[u8]) -> TimeLine
-    ensures { λ r. ⌜ r ≡ timeFound (getD timeLine 0 []) (now (s .entry)) ⌝ }
+pub fn read_time(s: &[u8], before: State) -> Found
+    ensures { λ r. ⌜ r ≡ lineRead timeLine (now (s .entry)) before ⌝ }
 {
     if has_time(s) {
-        TimeLine {
-            size: 14,
+        let r = before.known;
+        let known = Record {
             hour: layout::number_at(s, 5, 2),
             minute: layout::number_at(s, 8, 2),
             second: layout::number_at(s, 11, 2),
-        }
-    } else {
-        TimeLine {
-            size: 0,
-            hour: 0,
-            minute: 0,
-            second: 0,
-        }
+            ..r
+        };
+        return Found::Line(14, State { known, ..before });
     }
+    Found::Nothing
 }
 
 pub fn write_time(r: Record, out: &mut [u8]) -> usize

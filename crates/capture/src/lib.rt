@@ -1,21 +1,18 @@
 // The Capture string, form 2: `CHx dd.mm.yy hh:mm:ss.fffffff<CR><LF>`.
 ghost use mathlib.Core.Path.{_≡_};
 ghost use Prim.Native.Nat.{_≤_};
-ghost use lib.ListN.{length};
+ghost use lib.ListN.{length, take, drop};
 ghost use Rattle.forms.specs.Form.{Wrote, carries, readBy, valuesBy};
 ghost use Rattle.forms.specs.Needs.{hasAll};
 ghost use Rattle.forms.specs.Places.{shape};
 ghost use Rattle.forms.specs.Serial.{capture, captureRow};
 ghost use Rattle.forms.specs.Spelled.{recordFrom};
 ghost use Rattle.forms.specs.Told.{told};
+ghost use Rattle.layout.specs.Admitted.{Storable};
 ghost use Rattle.layout.specs.Stores.{stores};
-ghost use Rattle.capture.specs.Rows.{dateRow, timeRow};
 use record::Channel;
 use record::Date;
-use record::Flag;
 use record::Fraction;
-use record::Offset;
-use record::Position;
 use record::Record;
 use record::answer::Reading;
 use record::answer::Writing;
@@ -26,18 +23,18 @@ fn has_shape(s: &[u8]) -> bool
     ensures { λ r. ⌜ r ≡ shape captureRow 0 (now (s .entry)) ⌝ }
 {
     layout::text_at(s, 0, b"CH")
-        & (layout::digits_at(s, 2, 1)
-            & (layout::is_at(s, 3, b' ')
-                & (layout::pairs_at(s, 4, b'.')
-                    & (layout::is_at(s, 12, b' ')
-                        & (layout::pairs_at(s, 13, b':')
-                            & (layout::is_at(s, 21, b'.')
-                                & (layout::digits_at(s, 22, 7)
-                                    & layout::text_at(s, 29, b"\r\n"))))))))
+        & layout::digits_at(s, 2, 1)
+        & layout::is_at(s, 3, b' ')
+        & layout::pairs_at(s, 4, b'.')
+        & layout::is_at(s, 12, b' ')
+        & layout::pairs_at(s, 13, b':')
+        & layout::is_at(s, 21, b'.')
+        & layout::digits_at(s, 22, 7)
+        & layout::text_at(s, 29, b"\r\n")
 }
 
-// Any digit spells a channel: its range is tested with the record's.
-fn spelled(s: &[u8]) -> Record
+// Any digit decodes to a channel: its range is tested with the record's.
+fn decode(s: &[u8]) -> Record
     requires { ⌜ length (now s) ≡ 31 ⌝ }
     ensures { λ r. ⌜ r ≡ recordFrom (carries capture) (valuesBy capture (now (s .entry))) ⌝ }
 {
@@ -52,34 +49,7 @@ fn spelled(s: &[u8]) -> Record
         },
         fraction: Fraction::TenMillionths(layout::number_at(s, 22, 7)),
         channel: Channel::Number(layout::number_at(s, 2, 1)),
-        sync: Flag::Absent,
-        fix: Flag::Absent,
-        utc: Flag::Absent,
-        summer: Flag::Absent,
-        change: Flag::Absent,
-        leap: Flag::Absent,
-        offset: Offset::Absent,
-        position: Position::Absent,
-        dsp: Flag::Absent,
-        lsp: Flag::Absent,
-    }
-}
-
-fn read_whole(s: &[u8]) -> Reading
-    ensures { λ r. ⌜ r ≡ readBy capture (now (s .entry)) ⌝ }
-{
-    if s.len() != 31 {
-        return Reading::Refused(Refusal::WrongLength);
-    }
-    if has_shape(s) {
-        let r = spelled(s);
-        if r.in_range() {
-            Reading::Read(r)
-        } else {
-            Reading::Refused(Refusal::OutOfRange)
-        }
-    } else {
-        Reading::Refused(Refusal::WrongByte)
+        ..Record::empty()
     }
 }
 
@@ -87,30 +57,34 @@ fn read_whole(s: &[u8]) -> Reading
 pub fn read(s: &[u8]) -> Reading
     ensures { λ r. ⌜ r ≡ readBy capture (now (s .entry)) ⌝ }
 {
-    if s.len() == 31 {
-        if s[0] == b'C' {
-            return read_whole(s);
-        }
+    if s.len() != 31 {
+        return Reading::Refused(Refusal::WrongLength);
+    }
+    if s[0] != b'C' {
         return Reading::Refused(Refusal::WrongByte);
     }
-    Reading::Refused(Refusal::WrongLength)
+    if !has_shape(s) {
+        return Reading::Refused(Refusal::WrongByte);
+    }
+    layout::validate(decode(s))
 }
 
 // Thousandths do not serve: a fraction is never converted.
-fn has_fields(r: Record) -> bool
+fn has_carried(r: Record) -> bool
     ensures { λ b. ⌜ b ≡ hasAll (carries capture) r ⌝ }
 {
     let date = r.date;
     let fraction = r.fraction;
     let channel = r.channel;
     fields::has_full_date(date)
-        & (fields::has_ten_millionths(fraction) & fields::has_channel(channel))
+        & fields::has_ten_millionths(fraction)
+        & fields::has_channel(channel)
 }
 
 // `CHx dd.mm.yy`
 fn store_date(r: Record, out: &mut [u8])
     requires { ⌜ 31 ≤ length (now out) ⌝ }
-    ensures { λ _. ⌜ now (out .exit) ≡ stores dateRow 0 (told r) (now (out .entry)) ⌝ }
+    ensures { λ _. ⌜ now (out .exit) ≡ stores (take 8 captureRow) 0 (told r) (now (out .entry)) ⌝ }
 {
     let date = r.date;
     let channel = r.channel;
@@ -130,7 +104,7 @@ fn store_date(r: Record, out: &mut [u8])
 // ` hh:mm:ss.fffffff<CR><LF>`
 fn store_time(r: Record, out: &mut [u8])
     requires { ⌜ 31 ≤ length (now out) ⌝ }
-    ensures { λ _. ⌜ now (out .exit) ≡ stores timeRow 12 (told r) (now (out .entry)) ⌝ }
+    ensures { λ _. ⌜ now (out .exit) ≡ stores (drop 8 captureRow) 12 (told r) (now (out .entry)) ⌝ }
 {
     let fraction = r.fraction;
     spelling::put_byte(out, 12, b' ');
@@ -141,7 +115,7 @@ fn store_time(r: Record, out: &mut [u8])
 }
 
 fn store(r: Record, out: &mut [u8])
-    requires { ⌜ 31 ≤ length (now out) ⌝ }
+    requires { ⌜ Storable capture r (length (now out)) ⌝ }
     ensures { λ _. ⌜ now (out .exit) ≡ stores captureRow 0 (told r) (now (out .entry)) ⌝ }
 {
     store_date(r, out);
@@ -151,17 +125,12 @@ fn store(r: Record, out: &mut [u8])
 pub fn write(r: Record, out: &mut [u8]) -> Writing
     ensures { λ w. ⌜ Wrote capture r w (now (out .entry)) (now (out .exit)) ⌝ }
 {
-    if r.is_good() {
-        if has_fields(r) {
-            if out.len() < 31 {
-                return Writing::Refused(Refusal::ShortBuffer);
-            }
+    let answer = layout::admitted(r.is_good(), has_carried(r), true, 31, out.len());
+    match answer {
+        Writing::Written(n) => {
             store(r, out);
-            Writing::Written(31)
-        } else {
-            Writing::Refused(Refusal::MissingField)
+            Writing::Written(n)
         }
-    } else {
-        Writing::Refused(Refusal::BadRecord)
+        Writing::Refused(x) => Writing::Refused(x),
     }
 }

@@ -2,22 +2,17 @@
 ghost use mathlib.Core.Path.{_≡_};
 ghost use mathlib.Core.Bool.{true};
 ghost use Prim.Native.Nat.{_≤_};
-ghost use lib.ListN.{length};
+ghost use lib.ListN.{length, take};
 ghost use Rattle.forms.specs.Form.{Wrote, carries, readBy, valuesBy};
 ghost use Rattle.forms.specs.Needs.{hasAll};
 ghost use Rattle.forms.specs.Places.{shape};
 ghost use Rattle.forms.specs.Serial.{computime, computimeRow};
 ghost use Rattle.forms.specs.Spelled.{recordFrom};
 ghost use Rattle.forms.specs.Told.{told};
+ghost use Rattle.layout.specs.Admitted.{Storable};
 ghost use Rattle.layout.specs.Stores.{stores};
-ghost use Rattle.computime.specs.Rows.{headRow};
 ghost use Rattle.layout.specs.Weekday.{exists};
-use record::Channel;
 use record::Date;
-use record::Flag;
-use record::Fraction;
-use record::Offset;
-use record::Position;
 use record::Record;
 use record::answer::Reading;
 use record::answer::Writing;
@@ -28,14 +23,15 @@ fn has_shape(s: &[u8]) -> bool
     ensures { λ r. ⌜ r ≡ shape computimeRow 0 (now (s .entry)) ⌝ }
 {
     layout::text_at(s, 0, b"T:")
-        & (layout::pairs_at(s, 2, b':')
-            & (layout::is_at(s, 10, b':')
-                & (layout::digits_at(s, 11, 2)
-                    & (layout::is_at(s, 13, b':')
-                        & (layout::pairs_at(s, 14, b':') & layout::text_at(s, 22, b"\r\n"))))))
+        & layout::pairs_at(s, 2, b':')
+        & layout::is_at(s, 10, b':')
+        & layout::digits_at(s, 11, 2)
+        & layout::is_at(s, 13, b':')
+        & layout::pairs_at(s, 14, b':')
+        & layout::text_at(s, 22, b"\r\n")
 }
 
-fn spelled(s: &[u8]) -> Record
+fn decode(s: &[u8]) -> Record
     requires { ⌜ length (now s) ≡ 24 ⌝ }
     ensures { λ r. ⌜ r ≡ recordFrom (carries computime) (valuesBy computime (now (s .entry))) ⌝ }
 {
@@ -48,42 +44,7 @@ fn spelled(s: &[u8]) -> Record
             month: layout::number_at(s, 5, 2),
             day: layout::number_at(s, 8, 2),
         },
-        fraction: Fraction::Absent,
-        channel: Channel::Absent,
-        sync: Flag::Absent,
-        fix: Flag::Absent,
-        utc: Flag::Absent,
-        summer: Flag::Absent,
-        change: Flag::Absent,
-        leap: Flag::Absent,
-        offset: Offset::Absent,
-        position: Position::Absent,
-        dsp: Flag::Absent,
-        lsp: Flag::Absent,
-    }
-}
-
-fn read_whole(s: &[u8]) -> Reading
-    ensures { λ r. ⌜ r ≡ readBy computime (now (s .entry)) ⌝ }
-{
-    if s.len() != 24 {
-        return Reading::Refused(Refusal::WrongLength);
-    }
-    if has_shape(s) {
-        let r = spelled(s);
-        let weekday = layout::number_at(s, 11, 2);
-        if r.in_range() & layout::is_weekday(weekday) {
-            let date = r.date;
-            if layout::falls_on(date, weekday) {
-                Reading::Read(r)
-            } else {
-                Reading::Refused(Refusal::Disagreement)
-            }
-        } else {
-            Reading::Refused(Refusal::OutOfRange)
-        }
-    } else {
-        Reading::Refused(Refusal::WrongByte)
+        ..Record::empty()
     }
 }
 
@@ -91,16 +52,19 @@ fn read_whole(s: &[u8]) -> Reading
 pub fn read(s: &[u8]) -> Reading
     ensures { λ r. ⌜ r ≡ readBy computime (now (s .entry)) ⌝ }
 {
-    if s.len() == 24 {
-        if s[0] == b'T' {
-            return read_whole(s);
-        }
+    if s.len() != 24 {
+        return Reading::Refused(Refusal::WrongLength);
+    }
+    if s[0] != b'T' {
         return Reading::Refused(Refusal::WrongByte);
     }
-    Reading::Refused(Refusal::WrongLength)
+    if !has_shape(s) {
+        return Reading::Refused(Refusal::WrongByte);
+    }
+    layout::validate_on(decode(s), layout::number_at(s, 11, 2))
 }
 
-fn has_fields(r: Record) -> bool
+fn has_carried(r: Record) -> bool
     ensures { λ b. ⌜ b ≡ hasAll (carries computime) r ⌝ }
 {
     let date = r.date;
@@ -110,7 +74,7 @@ fn has_fields(r: Record) -> bool
 // `T:yy:mm:dd:ww:`
 fn store_date(r: Record, out: &mut [u8])
     requires { ⌜ (24 ≤ length (now out)) × (exists (r .date) ≡ true) ⌝ }
-    ensures { λ _. ⌜ now (out .exit) ≡ stores headRow 0 (told r) (now (out .entry)) ⌝ }
+    ensures { λ _. ⌜ now (out .exit) ≡ stores (take 9 computimeRow) 0 (told r) (now (out .entry)) ⌝ }
 {
     let date = r.date;
     spelling::put_bytes(out, 0, b"T:");
@@ -128,7 +92,7 @@ fn store_date(r: Record, out: &mut [u8])
 }
 
 fn store(r: Record, out: &mut [u8])
-    requires { ⌜ (24 ≤ length (now out)) × (exists (r .date) ≡ true) ⌝ }
+    requires { ⌜ Storable computime r (length (now out)) ⌝ }
     ensures { λ _. ⌜ now (out .exit) ≡ stores computimeRow 0 (told r) (now (out .entry)) ⌝ }
 {
     store_date(r, out);
@@ -139,17 +103,12 @@ fn store(r: Record, out: &mut [u8])
 pub fn write(r: Record, out: &mut [u8]) -> Writing
     ensures { λ w. ⌜ Wrote computime r w (now (out .entry)) (now (out .exit)) ⌝ }
 {
-    if r.is_good() {
-        if has_fields(r) {
-            if out.len() < 24 {
-                return Writing::Refused(Refusal::ShortBuffer);
-            }
+    let answer = layout::admitted(r.is_good(), has_carried(r), true, 24, out.len());
+    match answer {
+        Writing::Written(n) => {
             store(r, out);
-            Writing::Written(24)
-        } else {
-            Writing::Refused(Refusal::MissingField)
+            Writing::Written(n)
         }
-    } else {
-        Writing::Refused(Refusal::BadRecord)
+        Writing::Refused(x) => Writing::Refused(x),
     }
 }

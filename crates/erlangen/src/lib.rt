@@ -1,5 +1,4 @@
 // The Uni Erlangen string, form 3: `<STX>dd.mm.yy; w; hh:mm:ss; voo:oo; acdfg i;bbb.bbbbn lll.lllle hhhhm<ETX>`.
-mod numbers;
 mod reader;
 mod shape;
 mod ties;

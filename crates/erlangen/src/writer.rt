@@ -1,28 +1,21 @@
 // The writer.
 ghost use mathlib.Core.Path.{_≡_};
 ghost use mathlib.Core.Bool.{true};
-ghost use mathlib.Core.List.{[], _∷_};
-ghost use Prim.Native.Nat.{_+_, _<_, _≤_};
-ghost use lib.ListN.{length, getD};
-ghost use lib.Seq.{sets};
-ghost use Rattle.choice.specs.Pick.{oneIf};
-ghost use Rattle.calendar.specs.Calendar.{isDate, weekdayOf};
-ghost use Rattle.spelling.specs.Bytes.{letters};
-ghost use Rattle.record.specs.Record.{isYes};
+ghost use Prim.Native.Nat.{_+_, _≤_};
+ghost use lib.ListN.{length};
 ghost use Rattle.forms.specs.Form.{Wrote, carries};
 ghost use Rattle.forms.specs.Needs.{hasAll};
 ghost use Rattle.forms.specs.Serial.{erlangen, erlangenRow};
-ghost use Rattle.forms.specs.Told.{dayTold, monthTold, told, yearTold};
+ghost use Rattle.forms.specs.Told.{told};
+ghost use Rattle.layout.specs.Admitted.{Storable};
 ghost use Rattle.layout.specs.Stores.{stores};
+ghost use Rattle.layout.specs.Weekday.{exists};
 ghost use Rattle.erlangen.specs.Degrees.{degreesStored};
 ghost use Rattle.erlangen.specs.Rows.{altitudeRow, dateRow, flagsRow, latitudeRow, leapRow, longitudeRow, offsetRow, positionRow, timeRow};
-use calendar::Day;
-use record::Flag;
 use record::Record;
 use record::answer::Writing;
-use record::refusal::Refusal;
 
-fn has_fields(r: Record) -> bool
+fn has_carried(r: Record) -> bool
     ensures { λ b. ⌜ b ≡ hasAll (carries erlangen) r ⌝ }
 {
     let date = r.date;
@@ -34,48 +27,32 @@ fn has_fields(r: Record) -> bool
     let offset = r.offset;
     let position = r.position;
     fields::has_full_date(date)
-        & (fields::has_flag(sync)
-            & (fields::has_flag(fix)
-                & (fields::has_flag(summer)
-                    & (fields::has_flag(change)
-                        & (fields::has_flag(leap)
-                            & (fields::has_offset(offset) & fields::has_position(position)))))))
-}
-
-// The weekday of a date that exists.
-fn weekday_of(year: u32, month: u32, day: u32) -> u32
-    requires { ⌜ isDate year month day ≡ true ⌝ }
-    ensures { λ r. ⌜ r ≡ weekdayOf year month day ⌝ }
-{
-    let told = calendar::weekday(year, month, day);
-    match told {
-        Day::Number(n) => n,
-        Day::NoSuchDate => 0,
-    }
-}
-
-// A yes or no field by its two letters.
-fn put_flag(out: &mut [u8], at: usize, no: u8, yes: u8, flag: Flag)
-    requires { ⌜ at < length (now out) ⌝ }
-    ensures { λ _. ⌜ now (out .exit) ≡ sets (now (out .entry)) at (getD (letters (no ∷ yes ∷ [])) (oneIf (isYes flag)) []) ⌝ }
-{
-    layout::put_letter(out, at, no, yes, flag.is_yes());
+        & fields::has_flag(sync)
+        & fields::has_flag(fix)
+        & fields::has_flag(summer)
+        & fields::has_flag(change)
+        & fields::has_flag(leap)
+        & fields::has_offset(offset)
+        & fields::has_position(position)
 }
 
 // `<STX>dd.mm.yy; w; `
 fn store_date(r: Record, out: &mut [u8])
-    requires { ⌜ (66 ≤ length (now out)) × (isDate (yearTold (r .date)) (monthTold (r .date)) (dayTold (r .date)) ≡ true) ⌝ }
+    requires { ⌜ (66 ≤ length (now out)) × (exists (r .date) ≡ true) ⌝ }
     ensures { λ _. ⌜ now (out .exit) ≡ stores dateRow 0 (told r) (now (out .entry)) ⌝ }
 {
     let date = r.date;
-    let year = fields::year_of(date);
-    let month = fields::month_of(date);
-    let day = fields::day_of(date);
-    let weekday = weekday_of(year, month, day);
     spelling::put_byte(out, 0, 2);
-    layout::put_pairs(out, 1, b'.', day, month, year);
+    layout::put_pairs(
+        out,
+        1,
+        b'.',
+        fields::day_of(date),
+        fields::month_of(date),
+        fields::year_of(date),
+    );
     spelling::put_bytes(out, 9, b"; ");
-    spelling::put_digits(out, 11, 1, weekday);
+    spelling::put_digits(out, 11, 1, layout::weekday_of(date));
     spelling::put_bytes(out, 12, b"; ");
 }
 
@@ -112,11 +89,11 @@ fn store_flags(r: Record, out: &mut [u8])
     let summer = r.summer;
     let change = r.change;
     let leap = r.leap;
-    put_flag(out, 32, b'#', b' ', sync);
-    put_flag(out, 33, b'*', b' ', fix);
-    put_flag(out, 34, b' ', b'S', summer);
-    put_flag(out, 35, b' ', b'!', change);
-    put_flag(out, 36, b' ', b'A', leap);
+    layout::put_flag(out, 32, b'#', b' ', sync);
+    layout::put_flag(out, 33, b'*', b' ', fix);
+    layout::put_flag(out, 34, b' ', b'S', summer);
+    layout::put_flag(out, 35, b' ', b'!', change);
+    layout::put_flag(out, 36, b' ', b'A', leap);
 }
 
 // ` i;`
@@ -185,7 +162,7 @@ fn store_position(r: Record, out: &mut [u8])
 }
 
 fn store(r: Record, out: &mut [u8])
-    requires { ⌜ (66 ≤ length (now out)) × (isDate (yearTold (r .date)) (monthTold (r .date)) (dayTold (r .date)) ≡ true) ⌝ }
+    requires { ⌜ Storable erlangen r (length (now out)) ⌝ }
     ensures { λ _. ⌜ now (out .exit) ≡ stores erlangenRow 0 (told r) (now (out .entry)) ⌝ }
 {
     store_date(r, out);
@@ -199,17 +176,12 @@ fn store(r: Record, out: &mut [u8])
 pub fn write(r: Record, out: &mut [u8]) -> Writing
     ensures { λ w. ⌜ Wrote erlangen r w (now (out .entry)) (now (out .exit)) ⌝ }
 {
-    if r.is_good() {
-        if has_fields(r) {
-            if out.len() < 66 {
-                return Writing::Refused(Refusal::ShortBuffer);
-            }
+    let answer = layout::admitted(r.is_good(), has_carried(r), true, 66, out.len());
+    match answer {
+        Writing::Written(n) => {
             store(r, out);
-            Writing::Written(66)
-        } else {
-            Writing::Refused(Refusal::MissingField)
+            Writing::Written(n)
         }
-    } else {
-        Writing::Refused(Refusal::BadRecord)
+        Writing::Refused(x) => Writing::Refused(x),
     }
 }

@@ -1,19 +1,16 @@
 -- The signs that a record tells.
-use mathlib.Core.Bool.{Bool, false}
+use mathlib.Core.Bool.{Bool}
 use Rattle.record.specs.declared.Offset.{Offset}
-use Rattle.record.specs.declared.Offset.the-variants as offsetIs
 use Rattle.record.specs.declared.Position.{Position}
-use Rattle.record.specs.declared.Position.the-variants as positionIs
 use Rattle.record.specs.Sign.{isNegative}
+use Rattle.forms.specs.Fields.Offset.{minutesOf}
+use Rattle.forms.specs.Fields.Position.{latitudeOf, longitudeOf}
 
 abbrev pub isMinus : Offset → Bool
-isMinus offsetIs.Absent = false
-isMinus (offsetIs.Minutes z) = isNegative z
+isMinus x = isNegative (minutesOf x)
 
 abbrev pub isSouth : Position → Bool
-isSouth positionIs.Absent = false
-isSouth (positionIs.Degrees lat lon alt) = isNegative lat
+isSouth x = isNegative (latitudeOf x)
 
 abbrev pub isWest : Position → Bool
-isWest positionIs.Absent = false
-isWest (positionIs.Degrees lat lon alt) = isNegative lon
+isWest x = isNegative (longitudeOf x)

@@ -12,9 +12,9 @@ use Rattle.record.specs.declared.Record.{Record}
 use Rattle.record.specs.declared.answer.Reading.{Reading}
 use Rattle.record.specs.declared.answer.Reading.the-variants as reading
 use Rattle.record.specs.declared.refusal.Refusal.{Refusal}
-use Rattle.forms.specs.Form.{Form, carries, judged, ranges, readBy, readRow, sumHolds, ties, valuesBy}
+use Rattle.forms.specs.Checksum.{checksumsHold}
+use Rattle.forms.specs.Form.{Form, carries, judged, ranges, readBy, readRow, ties, valuesBy}
 use Rattle.forms.specs.Places.{shape}
-use Rattle.forms.specs.Slots.{sum}
 use Rattle.forms.specs.Spelled.{recordFrom}
 
 pub refused-read : (x : Refusal) (r : Record) → reading.Refused x ≡ reading.Read r → ⊥
@@ -31,7 +31,7 @@ passed false a x r h = absurd (refused-read x r h)
 pub record Accepted (d : Form) (s : List ℕ) (r : Record) : Type 0 where
   pub long : length s ≡ d .size
   pub shaped : shape (d .row) 0 s ≡ true
-  pub summed : sumHolds (d .sum) s (valuesBy d s sum) ≡ true
+  pub summed : checksumsHold (d .checksums) s (valuesBy d s) ≡ true
   pub ranged : ranges (carries d) (valuesBy d s) ≡ true
   pub tied : ties (carries d) (valuesBy d s) ≡ true
   pub spelled : recordFrom (carries d) (valuesBy d s) ≡ r
@@ -41,7 +41,7 @@ unfolding readBy readRow judged
 accepted d s r h =
     let a = passed (eqb (length s) (d .size)) _ _ r h in
     let b = passed (shape (d .row) 0 s) _ _ r (a .1) in
-    let c = passed (sumHolds (d .sum) s (valuesBy d s sum)) _ _ r (b .1) in
+    let c = passed (checksumsHold (d .checksums) s (valuesBy d s)) _ _ r (b .1) in
     let e = passed (ranges (carries d) (valuesBy d s)) _ _ r (c .1) in
     let f = passed (ties (carries d) (valuesBy d s)) _ _ r (e .1) in
     record {
@@ -54,7 +54,7 @@ accepted d s r h =
     }
 
 -- a string of the right length, shape and sum is judged by its values
-pub read-judged : (d : Form) (s : List ℕ) → length s ≡ d .size → shape (d .row) 0 s ≡ true → sumHolds (d .sum) s (valuesBy d s sum) ≡ true
+pub read-judged : (d : Form) (s : List ℕ) → length s ≡ d .size → shape (d .row) 0 s ≡ true → checksumsHold (d .checksums) s (valuesBy d s) ≡ true
     → readBy d s ≡ judged (carries d) (valuesBy d s)
 unfolding readBy readRow
 read-judged d s l h q = simp (eq-eqb (length s) (d .size) l, h, q)

@@ -8,10 +8,12 @@ use native.Mathlib.Omega.{arith}
 use lib.ListN.{take, drop}
 use Rattle.choice.specs.Pick.{pick}
 use Rattle.choice.proofs.Tests.{both, both-hold, or-right}
+use Rattle.forms.specs.Checksum.{Checksum}
 use Rattle.forms.specs.Places.{Place, Row, allWorded, fits, fixed, has, isOf, part, rowWidth, shape, width, worded}
 use Rattle.forms.specs.Slots.{Slot, Values}
 use Rattle.forms.proofs.Allowed.{allows, allowsRow}
-use Rattle.forms.proofs.Rows.{apart, apartRow, limitOf, placeLimit, soundPlace, soundRow}
+use Rattle.forms.proofs.RowLimits.{limitOf, placeLimit}
+use Rattle.forms.proofs.Rows.{apart, apartRow, soundPlace, soundRow}
 use Rattle.forms.proofs.Slots.{slot-self}
 use Rattle.forms.proofs.Sound.{wide, wideRow}
 
@@ -45,7 +47,7 @@ sound-append (p ∷ a) b h l =
     let e = both (soundPlace p) (soundRow a) h in
     both-hold (soundPlace p) (soundRow (a ++ b)) (e .0) (sound-append a b (e .1) l)
 
-pub wide-append : (x : ℕ) (a b : Row) → wideRow x a ≡ true → wideRow x b ≡ true → wideRow x (a ++ b) ≡ true
+pub wide-append : (x : List Checksum) (a b : Row) → wideRow x a ≡ true → wideRow x b ≡ true → wideRow x (a ++ b) ≡ true
 unfolding wideRow
 wide-append x [] b h l = l
 wide-append x (p ∷ a) b h l =

@@ -2,20 +2,33 @@
 use mathlib.Core.Path.{refl}
 use Rattle.calendar.specs.Answers.{dateFrom as datePlaced}
 use Rattle.calendar.specs.Calendar.{dayNumber, dayOfYear, daysThrough, firstDay, isDate, isLeap, isMonth, lengthAt, monthDays, monthLength, weekdayOf}
-use Rattle.spelling.specs.Bytes.{allAre, areGroups, arePadded, bitsNumber, bitsOf, blanked, digitsBelow, groupsLimit, groupsNumber, groupsOf, groupsWidth, isWord, numberIn, ones, sameBytes, spelledIn, wordPlace, xorFrom}
+use Rattle.spelling.specs.Bytes.{allAre, areGroups, arePadded, bitsNumber, bitsOf, blanked, digitsBelow, groupsLimit, groupsNumber, groupsOf, groupsWidth}
+use Rattle.spelling.specs.Bytes.{isWord, numberIn, ones, sameBytes, spelledIn, wordPlace, xorFrom}
 use Rattle.record.specs.Record.{channelInRange, dateInRange, fractionInRange, inRange, isGood, offsetInRange, positionInRange, timeInRange, zoneAgrees}
 use Rattle.forms.specs.Bench.{Bench}
 use Rattle.forms.specs.Block.{blockOf, chosenRow, layoutAt, readBlock, rowAt}
 use Rattle.forms.specs.Carries.{carriesOf}
-use Rattle.forms.specs.Form.{bytesBy, judged, leapTied, leftBy, numbersInRange, ranges, readBy, readRow, secondsTied, signTied, signsTied, sumHolds, ties, weekdayInRange, weekdayTied, writeBy}
+use Rattle.forms.specs.Checksum.{checksumsHold}
+use Rattle.forms.specs.Fields.Channel.{channelFrom}
+use Rattle.forms.specs.Fields.Date.{dateFrom, weekdayInRange, weekdayTied}
+use Rattle.forms.specs.Fields.Flag.{flagFrom}
+use Rattle.forms.specs.Fields.Fraction.{fractionFrom}
+use Rattle.forms.specs.Fields.Offset.{halfHourOf, minutesFrom, offsetFrom}
+use Rattle.forms.specs.Fields.Position.{positionFrom}
+use Rattle.forms.specs.Fields.Sign.{signTied}
+use Rattle.forms.specs.Fields.Time.{leapTied, secondsTied}
+use Rattle.forms.specs.Form.{bytesBy, isExpressible, judged, leftBy, numbersInRange, ranges, readBy, readRow, signsTied, ties, writeBy}
 use Rattle.forms.specs.Forms.{layoutOf, leftAs, leftForm, readAs, readForm, writeAs, writeForm}
 use Rattle.forms.specs.Needs.{hasAll}
 use Rattle.forms.specs.Places.{allWorded, bytesOf, has, rowWidth, shape, values}
-use Rattle.forms.specs.Spelled.{channelFrom, dateFrom, flagFrom, fractionFrom, minutesFrom, offsetFrom, positionFrom}
-use Rattle.forms.specs.Told.{halfHourOf}
 
 pub bench : Bench
-unfolding datePlaced dayNumber dayOfYear daysThrough firstDay isDate isLeap isMonth lengthAt monthDays monthLength weekdayOf allAre areGroups arePadded bitsNumber bitsOf blanked digitsBelow groupsLimit groupsNumber groupsOf groupsWidth isWord numberIn ones sameBytes spelledIn wordPlace xorFrom channelInRange dateInRange fractionInRange inRange isGood offsetInRange positionInRange timeInRange zoneAgrees blockOf chosenRow layoutAt readBlock rowAt carriesOf bytesBy judged leapTied leftBy numbersInRange ranges readBy readRow secondsTied signTied signsTied sumHolds ties weekdayInRange weekdayTied writeBy layoutOf leftAs leftForm readAs readForm writeAs writeForm hasAll allWorded bytesOf has rowWidth shape values channelFrom dateFrom flagFrom fractionFrom minutesFrom offsetFrom positionFrom halfHourOf
+unfolding datePlaced dayNumber dayOfYear daysThrough firstDay isDate isLeap isMonth lengthAt monthDays monthLength weekdayOf allAre areGroups
+    arePadded bitsNumber bitsOf blanked digitsBelow groupsLimit groupsNumber groupsOf groupsWidth isWord numberIn ones sameBytes spelledIn wordPlace
+    xorFrom channelInRange dateInRange fractionInRange inRange isGood offsetInRange positionInRange timeInRange zoneAgrees blockOf chosenRow layoutAt
+    readBlock rowAt carriesOf bytesBy judged leapTied leftBy numbersInRange ranges readBy readRow secondsTied signTied signsTied checksumsHold ties
+    weekdayInRange weekdayTied writeBy isExpressible layoutOf leftAs leftForm readAs readForm writeAs writeForm hasAll allWorded bytesOf has rowWidth
+    shape values channelFrom dateFrom flagFrom fractionFrom minutesFrom offsetFrom positionFrom halfHourOf
 bench =
     record {
       cases =

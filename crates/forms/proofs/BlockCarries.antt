@@ -8,11 +8,14 @@ use lib.Dec.{lit<}
 use lib.ListN.{length, getD}
 use Rattle.choice.specs.Pick.{pick}
 use Rattle.forms.specs.Block.{Line, blockLines, chosenRow, flagLine}
-use Rattle.forms.specs.Carries.{carriesOf, inMinutes, isCarried, isOffset, noFlag, noOffset, ownLetter}
+use Rattle.forms.specs.Carries.{carriesOf}
+use Rattle.forms.specs.Fields.Flag.{isCarried, noFlag, ownLetter}
+use Rattle.forms.specs.Fields.Offset.{inMinutes, isOffset, noOffset}
 use Rattle.forms.specs.Places.{has}
-use Rattle.forms.specs.Slots.{Slot, halfHour, minus, month, notice, ordinal, quality, south, tenMillionth, thousandth, year, zone}
+use Rattle.forms.specs.Slots.{Slot, halfHour, month, notice, offsetHours, ordinal, quality, south, tenMillionth, thousandth, year, zone}
 use Rattle.forms.proofs.BlockRow.{absent, found}
-use Rattle.forms.proofs.Choices.{dateIn, flag-has, fractionIn, isTold, second-has}
+use Rattle.forms.proofs.Choices.{dateIn, fractionIn, isTold, second-has}
+use Rattle.forms.proofs.FlagChoices.{flag-has}
 use Rattle.forms.proofs.Lines.{choice-lt, everyLayout, everyLine, isChoice, onlyIn}
 
 own-carried : (b : Bool) → isCarried (pick b ownLetter noFlag) ≡ b
@@ -59,7 +62,7 @@ module _ (cs : List ℕ) (o : isChoice blockLines cs ≡ true) where
         summer = rw (absent cs o zone refl, flag-in 7 (lit< tt) "summer=" Slot.summer refl refl) (own-carried _);
         change = rw (absent cs o notice refl, flag-in 8 (lit< tt) "change=" Slot.change refl refl) (own-carried _);
         leap = rw (absent cs o notice refl, flag-in 9 (lit< tt) "leap=" Slot.leap refl refl) (own-carried _);
-        offset = rw (absent cs o halfHour refl, found cs o 10 minus refl, second-has _ _ minus (getD cs 10 0) refl refl (choice-lt blockLines cs o 10 (lit< tt))) (offset-carried _);
+        offset = rw (absent cs o halfHour refl, found cs o 10 offsetHours refl, second-has _ _ offsetHours (getD cs 10 0) refl refl (choice-lt blockLines cs o 10 (lit< tt))) (offset-carried _);
         position = found cs o 11 south refl ∙ second-has _ _ south (getD cs 11 0) refl refl (choice-lt blockLines cs o 11 (lit< tt));
         dsp = rw (flag-in 12 (lit< tt) "dsp=" Slot.dsp refl refl) (own-carried _);
         lsp = rw (flag-in 13 (lit< tt) "lsp=" Slot.lsp refl refl) (own-carried _);

@@ -10,22 +10,27 @@ use lib.Dec.{lit<}
 use lib.ListN.{length, getD, drop}
 use lib.Seq.{drop-cons, drop-length}
 use Rattle.choice.specs.Pick.{oneIf}
+use Rattle.record.specs.Record.{isGood, isYes}
 use Rattle.record.specs.declared.Flag.{Flag}
 use Rattle.record.specs.declared.Record.{Record}
-use Rattle.record.specs.Record.{isGood, isYes}
-use Rattle.forms.specs.Block.{Line, blockLines, choices, chosenRow, flagChoice, flagLine}
+use Rattle.forms.specs.Block.{Line, blockLines, choices, chosenRow, flagLine}
 use Rattle.forms.specs.Carries.{Carries, carriesOf}
-use Rattle.forms.specs.Kept.{kept, keptFlag}
-use Rattle.forms.specs.Needs.{hasAll, hasFlag}
+use Rattle.forms.specs.Fields.Flag.{flagChoice, hasFlag, keptFlag}
+use Rattle.forms.specs.Form.{isExpressible}
+use Rattle.forms.specs.Kept.{kept}
+use Rattle.forms.specs.Needs.{hasAll}
 use Rattle.forms.specs.Places.{allWorded, rowWidth}
-use Rattle.forms.specs.Slots.{Slot, change, dsp, fix, leap, lsp, minus, south, summer, sync, utc, west, zone}
+use Rattle.forms.specs.Slots.{Slot, change, dsp, fix, hour, leap, lsp, minus, minute, second, south, summer, sync, utc, west, zone}
 use Rattle.forms.specs.Told.{told}
 use Rattle.forms.proofs.Append.{width-append, worded-append}
 use Rattle.forms.proofs.BlockCarries.{laid}
+use Rattle.forms.proofs.BlockRow.{block-time}
 use Rattle.forms.proofs.Bounds.{good, told-lt}
-use Rattle.forms.proofs.Choices.{channel-among, channel-choice, channel-taken, channel-width, channel-worded, date-among, date-choice, date-taken, date-width, date-worded, flag-among, flag-choice, flag-taken, flag-width, flag-worded, fraction-among, fraction-choice, fraction-taken, fraction-width, fraction-worded, isTold, offset-among, offset-choice, offset-taken, offset-width, offset-worded, position-among, position-choice, position-taken, position-width, position-worded}
-use Rattle.forms.proofs.Needs.{all-of}
+use Rattle.forms.proofs.Choices.{channel-choice, channel-own, date-choice, date-own, fraction-choice, fraction-own, isTold, offset-choice, offset-own, position-choice, position-own}
+use Rattle.forms.proofs.FlagChoices.{flag-among, flag-choice, flag-taken, flag-width, flag-worded}
+use Rattle.forms.proofs.Limits.{bound}
 use Rattle.forms.proofs.Lines.{choice-length, choice-lt, isChoice, worded-in}
+use Rattle.forms.proofs.Needs.{all-of}
 
 -- the elements of a list from i on
 unfoldable elements : ℕ → ℕ → List ℕ → List ℕ
@@ -43,44 +48,54 @@ module _ (r : Record) where
   pub own-choice : isChoice blockLines (choices r) ≡ true
   unfolding isChoice
   own-choice =
-      simp (date-among (r .date), fraction-among (r .fraction), channel-among (r .channel), flag-among, offset-among (r .offset), position-among (r .position))
+      simp (date-own (r .date) .among, fraction-own (r .fraction) .among, channel-own (r .channel) .among, flag-among, offset-own (r .offset) .among, position-own (r .position) .among)
 
   -- the row takes the whole record
   pub own-complete : hasAll (carriesOf (chosenRow blockLines (choices r))) r ≡ true
   unfolding hasAll
   own-complete =
       let t = laid (choices r) own-choice in
-      simp (t .date, date-taken (r .date) .0, t .fraction, fraction-taken (r .fraction) .0, t .channel, channel-taken (r .channel) .0, t .sync, flag-taken (r .sync) .0, t .fix, flag-taken (r .fix) .0, t .utc, flag-taken (r .utc) .0, t .summer, flag-taken (r .summer) .0, t .change, flag-taken (r .change) .0, t .leap, flag-taken (r .leap) .0, t .offset, offset-taken (r .offset) .0, t .position, position-taken (r .position) .0, t .dsp, flag-taken (r .dsp) .0, t .lsp, flag-taken (r .lsp) .0)
+      simp (t .date, date-own (r .date) .taken, t .fraction, fraction-own (r .fraction) .taken, t .channel, channel-own (r .channel) .taken, t .sync, flag-taken (r .sync) .0, t .fix, flag-taken (r .fix) .0, t .utc, flag-taken (r .utc) .0, t .summer, flag-taken (r .summer) .0, t .change, flag-taken (r .change) .0, t .leap, flag-taken (r .leap) .0, t .offset, offset-own (r .offset) .taken, t .position, position-own (r .position) .taken, t .dsp, flag-taken (r .dsp) .0, t .lsp, flag-taken (r .lsp) .0)
 
   -- the row keeps the whole record
   pub own-kept : kept (carriesOf (chosenRow blockLines (choices r))) r ≡ r
   unfolding kept
   own-kept =
       let t = laid (choices r) own-choice in
-      simp (t .date, date-taken (r .date) .1, t .fraction, fraction-taken (r .fraction) .1, t .channel, channel-taken (r .channel) .1, t .sync, flag-taken (r .sync) .1, t .fix, flag-taken (r .fix) .1, t .utc, flag-taken (r .utc) .1, t .summer, flag-taken (r .summer) .1, t .change, flag-taken (r .change) .1, t .leap, flag-taken (r .leap) .1, t .offset, offset-taken (r .offset) .1, t .position, position-taken (r .position) .1, t .dsp, flag-taken (r .dsp) .1, t .lsp, flag-taken (r .lsp) .1)
+      simp (t .date, date-own (r .date) .whole, t .fraction, fraction-own (r .fraction) .whole, t .channel, channel-own (r .channel) .whole, t .sync, flag-taken (r .sync) .1, t .fix, flag-taken (r .fix) .1, t .utc, flag-taken (r .utc) .1, t .summer, flag-taken (r .summer) .1, t .change, flag-taken (r .change) .1, t .leap, flag-taken (r .leap) .1, t .offset, offset-own (r .offset) .whole, t .position, position-own (r .position) .whole, t .dsp, flag-taken (r .dsp) .1, t .lsp, flag-taken (r .lsp) .1)
 
   -- each word list of the row has a word for the record
-  pub own-worded : isGood r ≡ true → allWorded (chosenRow blockLines (choices r)) (told r) ≡ true
-  unfolding chosenRow allWorded
-  own-worded g =
+  own-words : isGood r ≡ true → allWorded (chosenRow blockLines (choices r)) (told r) ≡ true
+  unfolding chosenRow allWorded bound
+  own-words g =
       let below = told-lt r (good r g) in
-      simp (worded-append, date-worded (r .date), fraction-worded (r .fraction), channel-worded (r .channel), flag-worded "sync=" sync (r .sync) (told r) refl, flag-worded "fix=" fix (r .fix) (told r) refl, flag-worded "utc=" utc (r .utc) (told r) refl, flag-worded "summer=" summer (r .summer) (told r) refl, flag-worded "change=" change (r .change) (told r) refl, flag-worded "leap=" leap (r .leap) (told r) refl, offset-worded (r .offset) (told r) (below minus), position-worded (r .position) (told r) (below south) (below west), flag-worded "dsp=" dsp (r .dsp) (told r) refl, flag-worded "lsp=" lsp (r .lsp) (told r) refl)
+      let m = below minus in
+      let s = below south in
+      let w = below west in
+      simp (worded-append, date-own (r .date) .worded (told r) m s w, fraction-own (r .fraction) .worded (told r) m s w, channel-own (r .channel) .worded (told r) m s w, flag-worded "sync=" sync (r .sync) (told r) refl, flag-worded "fix=" fix (r .fix) (told r) refl, flag-worded "utc=" utc (r .utc) (told r) refl, flag-worded "summer=" summer (r .summer) (told r) refl, flag-worded "change=" change (r .change) (told r) refl, flag-worded "leap=" leap (r .leap) (told r) refl, offset-own (r .offset) .worded (told r) m s w, position-own (r .position) .worded (told r) m s w, flag-worded "dsp=" dsp (r .dsp) (told r) refl, flag-worded "lsp=" lsp (r .lsp) (told r) refl)
+
+  -- it is expressible: the time is always told
+  pub own-worded : isGood r ≡ true → isExpressible (chosenRow blockLines (choices r)) (told r) ≡ true
+  unfolding isExpressible
+  own-worded g =
+      let told-time = block-time (choices r) own-choice in
+      simp (told-time hour refl, told-time minute refl, told-time second refl, own-words g)
 
   -- "118..174"
   pub own-size : isGood r ≡ true → (118 ≤ rowWidth (chosenRow blockLines (choices r))) × (rowWidth (chosenRow blockLines (choices r)) ≤ 174)
-  unfolding chosenRow rowWidth
+  unfolding chosenRow rowWidth bound
   own-size g =
-      let x1 = date-width (r .date) in
-      let x2 = fraction-width (r .fraction) in
-      let x3 = channel-width (r .channel) in
+      let x1 = date-own (r .date) in
+      let x2 = fraction-own (r .fraction) in
+      let x3 = channel-own (r .channel) in
       let x4 = flag-width "sync=" sync (r .sync) in
       let x5 = flag-width "fix=" fix (r .fix) in
       let x6 = flag-width "utc=" utc (r .utc) in
       let x7 = flag-width "summer=" summer (r .summer) in
       let x8 = flag-width "change=" change (r .change) in
       let x9 = flag-width "leap=" leap (r .leap) in
-      let x10 = offset-width (r .offset) in
-      let x11 = position-width (r .position) in
+      let x10 = offset-own (r .offset) in
+      let x11 = position-own (r .position) in
       let x12 = flag-width "dsp=" dsp (r .dsp) in
       let x13 = flag-width "lsp=" lsp (r .lsp) in
       let z = told-lt r (good r g) zone in

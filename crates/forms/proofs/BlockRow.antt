@@ -1,31 +1,34 @@
 -- Every row chosen for the block's lines makes a sound form: the tests are computed over the layouts of the lines.
-use mathlib.Core.Path.{_≡_, refl, sym, _∙_, ap}
-use mathlib.Core.Bool.{Bool, true, false, not, _&&_, false≢true}
-use mathlib.Core.List.{List, [], _∷_, _++_}
-use Prim.Native.Nat.{ℕ}
+use mathlib.Core.Path.{_≡_, refl, sym, _∙_}
+use mathlib.Core.Bool.{Bool, true, false, _&&_}
+use mathlib.Core.List.{List, [], _++_}
+use Prim.Native.Nat.{ℕ, _<_}
 use native.Mathlib.Omega.{arith}
-use borrow.Author.Tests.{le-leb, leb-true, ltb-true, not-true}
-use lib.Dec.{leb, ltb}
+use borrow.Author.Tests.{le-leb, leb-true, ltb-true}
+use lib.Dec.{leb, ltb, lit<}
 use lib.ListN.{length, getD}
 use Rattle.choice.proofs.Tests.{both}
 use Rattle.spelling.specs.Bytes.{allAre, isWord, sameBytes}
 use Rattle.spelling.proofs.Words.{allDifferent, allLong}
 use Rattle.forms.specs.Block.{blockLines, chosenRow}
-use Rattle.forms.specs.Form.{Form, noSum}
-use Rattle.forms.specs.Places.{Row, has, rowWidth}
-use Rattle.forms.specs.Slots.{Slot, sum}
+use Rattle.forms.specs.Places.{Row, has}
+use Rattle.forms.specs.Slots.{Slot, altitude, among, day, halfHour, hour, latitudeDegrees, latitudePart, longitudeDegrees, longitudePart, minus, minute, month, ofChecksum, offsetHours, offsetMinutes, ordinal, second, south, sum, tenMillionth, thousandth, west, year}
 use Rattle.forms.proofs.Allowed.{allWords, allowsRow, upTo}
 use Rattle.forms.proofs.Append.{allows-append, limit-append, sound-append, wide-append}
-use Rattle.forms.proofs.Complete.{Complete, alike, alike-true, implied, implies, most}
+use Rattle.forms.proofs.ChecksumList.{checksumsSound}
+use Rattle.forms.proofs.Checksums.{isByte}
+use Rattle.forms.proofs.Complete.{Complete, excluded, excludes, implied, implies}
+use Rattle.forms.proofs.Fields.Date.{dateWhole}
+use Rattle.forms.proofs.Fields.Fraction.{fractionWhole}
+use Rattle.forms.proofs.Fields.Offset.{offsetWhole}
+use Rattle.forms.proofs.Fields.Position.{positionWhole}
+use Rattle.forms.proofs.Layouts.{formOf}
+use Rattle.forms.proofs.Limits.{bound, most}
 use Rattle.forms.proofs.Lines.{apart-chosen, choice-lt, everyLayout, everyLine, found-in, isChoice, lacks, lacks-row, layout-passes, layoutIn, onlyIn, row-passes, standsOnce}
-use Rattle.forms.proofs.Rows.{apartRow, limitOf, soundRow}
-use Rattle.forms.proofs.Slots.{every, every-slot, slots}
+use Rattle.forms.proofs.RowLimits.{limitOf}
+use Rattle.forms.proofs.Rows.{apartRow, soundRow}
+use Rattle.forms.proofs.Slots.{_and_, every, every-slot, listed, none, ofTime, slots}
 use Rattle.forms.proofs.Sound.{SoundForm, wideRow}
-use Rattle.forms.proofs.Sums.{isByte, unsummed}
-
--- the form of a row that has no sum
-abbrev pub formOf : Row → Form
-formOf ps = record { size = rowWidth ps; row = ps; sum = noSum }
 
 -- each layout of each line passes the tests of a row
 
@@ -33,8 +36,8 @@ all-sound : everyLine (everyLayout soundRow) blockLines ≡ true
 unfolding everyLine everyLayout soundRow allLong allDifferent isWord sameBytes
 all-sound = refl
 
-all-wide : everyLine (everyLayout (wideRow 1)) blockLines ≡ true
-unfolding everyLine everyLayout wideRow
+all-wide : everyLine (everyLayout (wideRow [])) blockLines ≡ true
+unfolding everyLine everyLayout wideRow bound
 all-wide = refl
 
 all-bytes : everyLine (everyLayout (allowsRow isByte)) blockLines ≡ true
@@ -46,7 +49,7 @@ abbrev isMeant : Slot → Row → Bool
 isMeant f ps = leb (limitOf ps f) (most f)
 
 all-meant : every slots (λ (f : Slot). everyLine (everyLayout (isMeant f)) blockLines) ≡ true
-unfolding everyLine everyLayout every limitOf
+unfolding everyLine everyLayout every limitOf most
 all-meant = refl
 
 meant-none : (f : Slot) → isMeant f [] ≡ true
@@ -65,26 +68,14 @@ all-once : every slots (standsOnce blockLines) ≡ true
 unfolding everyLine everyLayout every standsOnce has
 all-once = refl
 
-unsummed-none : (ps : Row) → unsummed ps 0 ≡ true
-unfolding unsummed
-unsummed-none [] = refl
-unsummed-none (p ∷ ps) = refl
-
 -- line i alone has the two slots, and each of its layouts passes a test of whether it has them
 abbrev agree : ℕ → (Bool → Bool → Bool) → Slot → Slot → Bool
 agree i t f g =
     ltb i (length blockLines) && (onlyIn blockLines i f && (onlyIn blockLines i g && everyLayout (λ (ps : Row). t (has ps f) (has ps g)) (getD blockLines i [])))
 
-abbrev excludes : Bool → Bool → Bool
-excludes a b = implies a (not b)
-
 -- the first of two slots stands there
 abbrev first : Bool → Bool → Bool
 first a b = a
-
-and-not : (a b : Bool) → b ≡ false → a ≡ (a && not b)
-and-not true b h = sym (ap not h)
-and-not false b h = refl
 
 module _ (cs : List ℕ) (o : isChoice blockLines cs ≡ true) where
   -- a slot that no other line has is told by the layout chosen for line i
@@ -102,33 +93,31 @@ module _ (cs : List ℕ) (o : isChoice blockLines cs ≡ true) where
   pub absent : (f : Slot) → everyLine (everyLayout (lacks f)) blockLines ≡ true → has (chosenRow blockLines cs) f ≡ false
   absent f h = lacks-row f blockLines cs o h
 
-  block-complete : Complete (chosenRow blockLines cs)
+  -- a test of each layout of line i holds of the one that is chosen
+  passes : (i : ℕ) (t : Row → Bool) → i < length blockLines → everyLayout t (getD blockLines i []) ≡ true → t (layoutIn blockLines cs i) ≡ true
+  passes i t l h = layout-passes t (getD blockLines i []) (getD cs i 0) (choice-lt blockLines cs o i l) h
+
+  -- the time is always told
+  pub block-time : (f : Slot) → among f ofTime ≡ true → has (chosenRow blockLines cs) f ≡ true
   unfolding everyLine everyLayout onlyIn has
+  block-time =
+      listed (λ (f : Slot). has (chosenRow blockLines cs) f ≡ true) ofTime
+      (agreed 1 first hour hour refl and agreed 1 first minute minute refl and agreed 1 first second second refl and none)
+
+  block-complete : Complete (chosenRow blockLines cs)
+  unfolding everyLine everyLayout onlyIn has every
   block-complete =
       record {
-        hour = agreed 1 first Slot.hour Slot.hour refl;
-        minute = agreed 1 first Slot.minute Slot.minute refl;
-        second = agreed 1 first Slot.second Slot.second refl;
-        day = alike-true _ _ (agreed 0 alike Slot.day Slot.month refl);
-        offsetHours = alike-true _ _ (agreed 10 alike Slot.offsetHours Slot.minus refl);
-        latitudeDegrees = alike-true _ _ (agreed 11 alike Slot.latitudeDegrees Slot.south refl);
-        latitudePart = alike-true _ _ (agreed 11 alike Slot.latitudePart Slot.south refl);
-        west = alike-true _ _ (agreed 11 alike Slot.west Slot.south refl);
-        longitudeDegrees = alike-true _ _ (agreed 11 alike Slot.longitudeDegrees Slot.south refl);
-        longitudePart = alike-true _ _ (agreed 11 alike Slot.longitudePart Slot.south refl);
-        altitude = alike-true _ _ (agreed 11 alike Slot.altitude Slot.south refl);
-        month-year = implied _ _ (agreed 0 implies Slot.month Slot.year refl);
-        weekday-month = implied _ _ (agreed 0 implies Slot.weekday Slot.month refl);
-        halfHour-minus = implied _ _ (agreed 10 implies Slot.halfHour Slot.minus refl);
-        ordinal-month = λ h. not-true _ (implied _ _ (agreed 0 excludes Slot.ordinal Slot.month refl) h);
-        tenMillionth-thousandth = λ h. not-true _ (implied _ _ (agreed 2 excludes Slot.tenMillionth Slot.thousandth refl) h);
-        quality-sync = λ h. not-true _ (implied _ _ (agreed 4 excludes Slot.quality Slot.sync refl) h);
-        utc-zone = λ h. absent Slot.zone refl;
-        summer-zone = λ h. absent Slot.zone refl;
-        change-notice = λ h. absent Slot.notice refl;
-        leap-notice = λ h. absent Slot.notice refl;
-        offsetMinutes = alike-true _ _ (agreed 10 alike Slot.offsetMinutes Slot.minus refl) ∙ and-not _ _ (absent Slot.halfHour refl);
-        year-ordinal = λ h n. absurd (false≢true (sym n ∙ implied _ _ (agreed 0 implies Slot.year Slot.month refl) h));
+        date = rw (found 0 year refl, found 0 month refl, found 0 day refl, found 0 ordinal refl) (passes 0 dateWhole (lit< tt) refl);
+        fraction = rw (found 2 thousandth refl, found 2 tenMillionth refl) (passes 2 fractionWhole (lit< tt) refl);
+        offset = rw (found 10 minus refl, found 10 offsetHours refl, found 10 offsetMinutes refl, found 10 halfHour refl) (passes 10 offsetWhole (lit< tt) refl);
+        position = rw (found 11 south refl, found 11 latitudeDegrees refl, found 11 latitudePart refl, found 11 west refl, found 11 longitudeDegrees refl, found 11 longitudePart refl, found 11 altitude refl) (passes 11 positionWhole (lit< tt) refl);
+        weekday = implied _ _ (agreed 0 implies Slot.weekday Slot.month refl);
+        quality = excluded _ _ (agreed 4 excludes Slot.quality Slot.sync refl);
+        utc = λ h. absent Slot.zone refl;
+        summer = λ h. absent Slot.zone refl;
+        change = λ h. absent Slot.notice refl;
+        leap = λ h. absent Slot.notice refl;
         meant = λ f.
             leb-true _ _ (row-passes (isMeant f) (meant-none f) (meant-append f) blockLines cs o (every-slot (λ (g : Slot). everyLine (everyLayout (isMeant g)) blockLines) all-meant f));
       }
@@ -139,9 +128,10 @@ module _ (cs : List ℕ) (o : isChoice blockLines cs ≡ true) where
         sized = refl;
         rowSound = row-passes soundRow (unfold soundRow in refl) sound-append blockLines cs o all-sound;
         rowApart = apart-chosen blockLines cs o all-apart (every-slot (standsOnce blockLines) all-once);
-        rowWide = row-passes (wideRow 1) (unfold wideRow in refl) (wide-append 1) blockLines cs o all-wide;
+        rowWide = row-passes (wideRow []) (unfold wideRow in refl) (wide-append []) blockLines cs o all-wide;
         rowComplete = block-complete;
-        summed = absent sum (unfold everyLine everyLayout has in refl);
-        sumBehind = unsummed-none (chosenRow blockLines cs);
+        summed = listed (λ (f : Slot). has (chosenRow blockLines cs) f ≡ true → false ≡ true) ofChecksum
+            ((λ h. sym (absent sum (unfold everyLine everyLayout has in refl)) ∙ h) and none);
+        sumsSound = unfold checksumsSound in refl;
         rowBytes = row-passes (allowsRow isByte) (unfold allowsRow in refl) (allows-append isByte) blockLines cs o all-bytes;
       }

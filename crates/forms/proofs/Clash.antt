@@ -1,5 +1,5 @@
--- Which bytes a row allows at each place, and rows that cannot fit the same bytes: somewhere one has a fixed byte that the
--- other does not allow.
+-- Which bytes a row admits at each place, and rows that cannot fit the same bytes: somewhere one has a fixed byte that the
+-- other does not admit.
 use mathlib.Core.Path.{_≡_, refl, sym, _∙_, ap}
 use mathlib.Core.Bool.{Bool, true, false, not, _&&_, _||_, false≢true}
 use mathlib.Core.List.{List, [], _∷_}
@@ -18,26 +18,35 @@ use Rattle.spelling.proofs.SameBytes.{same-bytes}
 use Rattle.forms.specs.Places.{Place, Row, fits, fixed, part, shape, width}
 use Rattle.forms.proofs.Allowed.{all-at}
 
+-- the bytes that may stand somewhere: one alone, or those that pass a test
+pub data Admitted : Type 0 where
+  only : ℕ → Admitted
+  those : (ℕ → Bool) → Admitted
+
+abbrev pub admits : Admitted → ℕ → Bool
+admits (only c) b = eqb b c
+admits (those t) b = t b
+
 -- some word of the list has the byte at place i
 unfoldable pub lettered : List (List ℕ) → ℕ → ℕ → Bool
 lettered [] i b = false
 lettered (y ∷ ys) i b = eqb b (getD y i 0) || lettered ys i b
 
--- the byte may be byte i of a place; nothing is said of groups
-abbrev pub permits : Place → ℕ → ℕ → Bool
-permits (fixed bs) i b = eqb b (getD bs i 0)
-permits (part (digits w) f) i b = isDigit b
-permits (part (hex w) f) i b = isHex b
-permits (part (padded w) f) i b = eqb b 32 || isDigit b
-permits (part (bits w) f) i b = isBit b
-permits (part (grouped g gs) f) i b = true
-permits (part (words w ws) f) i b = lettered ws i b
-permits (part (word m bs) f) i b = eqb b (getD bs i 0)
+-- what may be byte i of a place; nothing is said of groups
+abbrev pub inPlace : Place → ℕ → Admitted
+inPlace (fixed bs) i = only (getD bs i 0)
+inPlace (part (digits w) f) i = those isDigit
+inPlace (part (hex w) f) i = those isHex
+inPlace (part (padded w) f) i = those (λ b. eqb b 32 || isDigit b)
+inPlace (part (bits w) f) i = those isBit
+inPlace (part (grouped g gs) f) i = those (λ b. true)
+inPlace (part (words w ws) f) i = those (lettered ws i)
+inPlace (part (word m bs) f) i = only (getD bs i 0)
 
--- the byte may be byte i of a row, or lies behind it
-unfoldable pub allowedAt : Row → ℕ → ℕ → Bool
-allowedAt [] i b = true
-allowedAt (p ∷ ps) i b = pick (ltb i (width p)) (permits p i b) (allowedAt ps (i - width p) b)
+-- what may be byte i of a row, any byte behind it
+unfoldable pub admittedAt : Row → ℕ → Admitted
+admittedAt [] i = those (λ b. true)
+admittedAt (p ∷ ps) i = pick (ltb i (width p)) (inPlace p i) (admittedAt ps (i - width p))
 
 same-at : (x y : List ℕ) (i : ℕ) → sameBytes x y ≡ true → eqb (getD x i 0) (getD y i 0) ≡ true
 same-at x y i h = eq-eqb _ _ (ap (λ (z : List ℕ). getD z i 0) (same-bytes x y h))
@@ -74,7 +83,7 @@ padded-at (b ∷ c ∷ bs) (suc i) h l = go (eqb b 32) h (padded-at (c ∷ bs) i
         or-right (eqb (getD (c ∷ bs) i 0) 32) (isDigit (getD (c ∷ bs) i 0))
         (all-at isDigit (c ∷ bs) i (both (leb 49 b && leb b 57) (areDigits (c ∷ bs)) h .1) (omega arith))
 
-permitted : (p : Place) (x : List ℕ) (i : ℕ) → fits p x ≡ true → i < length x → permits p i (getD x i 0) ≡ true
+permitted : (p : Place) (x : List ℕ) (i : ℕ) → fits p x ≡ true → i < length x → admits (inPlace p i) (getD x i 0) ≡ true
 permitted (fixed bs) x i h l = same-at x bs i h
 permitted (part (digits w) f) x i h l = all-at isDigit x i h l
 permitted (part (hex w) f) x i h l = all-at isHex x i h l
@@ -84,17 +93,17 @@ permitted (part (grouped g gs) f) x i h l = refl
 permitted (part (words w ws) f) x i h l = lettered-at ws x i h
 permitted (part (word m bs) f) x i h l = same-at x bs i h
 
--- a row allows the bytes that it fits
-pub shape-allows : (ps : Row) (k : ℕ) (s : List ℕ) (i : ℕ) → shape ps k s ≡ true → k + i < length s → allowedAt ps i (getD s (k + i) 0) ≡ true
-unfolding shape allowedAt
-shape-allows [] k s i h l = refl
-shape-allows (p ∷ ps) k s i h l =
+-- a row admits the bytes that it fits
+shape-admits : (ps : Row) (k : ℕ) (s : List ℕ) (i : ℕ) → shape ps k s ≡ true → k + i < length s → admits (admittedAt ps i) (getD s (k + i) 0) ≡ true
+unfolding shape admittedAt
+shape-admits [] k s i h l = refl
+shape-admits (p ∷ ps) k s i h l =
     let e = both (fits p (take (width p) (drop k s))) (shape ps (width p + k) s) h in
-    go (ltb i (width p)) refl (e .0) (shape-allows ps (width p + k) s (i - width p) (e .1))
+    go (ltb i (width p)) refl (e .0) (shape-admits ps (width p + k) s (i - width p) (e .1))
   where
     go : (t : Bool) → ltb i (width p) ≡ t → fits p (take (width p) (drop k s)) ≡ true
-        → (width p + k + (i - width p) < length s → allowedAt ps (i - width p) (getD s (width p + k + (i - width p)) 0) ≡ true)
-        → pick t (permits p i (getD s (k + i) 0)) (allowedAt ps (i - width p) (getD s (k + i) 0)) ≡ true
+        → (width p + k + (i - width p) < length s → admits (admittedAt ps (i - width p)) (getD s (width p + k + (i - width p)) 0) ≡ true)
+        → admits (pick t (inPlace p i) (admittedAt ps (i - width p))) (getD s (k + i) 0) ≡ true
     go true e f n =
         let m = ltb-true i (width p) e in
         let q : getD (take (width p) (drop k s)) i 0 ≡ getD s (k + i) 0 = getD-take (width p) (drop k s) i 0 m ∙ getD-drop k s i 0 in
@@ -104,72 +113,28 @@ shape-allows (p ∷ ps) k s i h l =
         let q : width p + k + (i - width p) ≡ k + i = omega arith in
         rw q at n l
 
--- the fixed byte at place i of a row, none where no fixed byte stands there
+-- no byte is admitted by both
+abbrev pub clash : Admitted → Admitted → Bool
+clash (only c) y = not (admits y c)
+clash (those t) (only c) = not (t c)
+clash (those t) (those u) = false
 
-abbrev pub fixedIn : Place → ℕ → List ℕ
-fixedIn (fixed bs) i = getD bs i 0 ∷ []
-fixedIn (part (digits w) f) i = []
-fixedIn (part (hex w) f) i = []
-fixedIn (part (padded w) f) i = []
-fixedIn (part (bits w) f) i = []
-fixedIn (part (grouped g gs) f) i = []
-fixedIn (part (words w ws) f) i = []
-fixedIn (part (word m bs) f) i = getD bs i 0 ∷ []
-
-unfoldable pub fixedAt : Row → ℕ → List ℕ
-fixedAt [] i = []
-fixedAt (p ∷ ps) i = pick (ltb i (width p)) (fixedIn p i) (fixedAt ps (i - width p))
-
--- a row does not allow the fixed byte
-unfoldable pub refuses : Row → ℕ → List ℕ → Bool
-refuses ps i [] = false
-refuses ps i (b ∷ bs) = not (allowedAt ps i b)
+never-byte : (x y : Admitted) (b : ℕ) → clash x y ≡ true → admits x b ≡ true → admits y b ≡ true → ⊥
+never-byte (only c) y b h e f = false≢true (sym (not-true (admits y c) h) ∙ ap (admits y) (sym (eqb-true b c e)) ∙ f)
+never-byte (those t) (only c) b h e f = false≢true (sym (not-true (t c) h) ∙ ap t (sym (eqb-true b c f)) ∙ e)
+never-byte (those t) (those u) b h e f = false≢true h
 
 -- one of the first n bytes cannot stand in both rows
 unfoldable pub clashBelow : ℕ → Row → Row → Bool
 clashBelow zero ps qs = false
-clashBelow (suc i) ps qs = (refuses ps i (fixedAt qs i) || refuses qs i (fixedAt ps i)) || clashBelow i ps qs
-
--- the byte is the fixed one, where there is one
-abbrev isFixed : List ℕ → ℕ → Bool
-isFixed [] b = true
-isFixed (c ∷ cs) b = eqb b c
-
-fixed-in : (p : Place) (i b : ℕ) → permits p i b ≡ true → isFixed (fixedIn p i) b ≡ true
-fixed-in (fixed bs) i b h = h
-fixed-in (part (digits w) f) i b h = refl
-fixed-in (part (hex w) f) i b h = refl
-fixed-in (part (padded w) f) i b h = refl
-fixed-in (part (bits w) f) i b h = refl
-fixed-in (part (grouped g gs) f) i b h = refl
-fixed-in (part (words w ws) f) i b h = refl
-fixed-in (part (word m bs) f) i b h = h
-
-fixed-at : (ps : Row) (i b : ℕ) → allowedAt ps i b ≡ true → isFixed (fixedAt ps i) b ≡ true
-unfolding allowedAt fixedAt
-fixed-at [] i b h = refl
-fixed-at (p ∷ ps) i b h = go (ltb i (width p)) h (fixed-at ps (i - width p) b)
-  where
-    go : (t : Bool) → pick t (permits p i b) (allowedAt ps (i - width p) b) ≡ true → (allowedAt ps (i - width p) b ≡ true → isFixed (fixedAt ps (i - width p)) b ≡ true)
-        → isFixed (pick t (fixedIn p i) (fixedAt ps (i - width p))) b ≡ true
-    go true h n = fixed-in p i b h
-    go false h n = n h
-
-refused : (ps : Row) (i b : ℕ) (cs : List ℕ) → refuses ps i cs ≡ true → isFixed cs b ≡ true → allowedAt ps i b ≡ true → ⊥
-unfolding refuses
-refused ps i b [] h e a = false≢true h
-refused ps i b (c ∷ cs) h e a = false≢true (sym (not-true (allowedAt ps i c) h) ∙ ap (allowedAt ps i) (sym (eqb-true b c e)) ∙ a)
+clashBelow (suc i) ps qs = clash (admittedAt ps i) (admittedAt qs i) || clashBelow i ps qs
 
 -- rows that clash do not both fit
 pub never-both : (n : ℕ) (ps qs : Row) (k : ℕ) (s : List ℕ) → clashBelow n ps qs ≡ true → k + n ≤ length s → shape ps k s ≡ true → shape qs k s ≡ true → ⊥
 unfolding clashBelow
 never-both zero ps qs k s c l h g = false≢true c
 never-both (suc i) ps qs k s c l h g =
-    let a = shape-allows ps k s i h (omega arith) in
-    let b = shape-allows qs k s i g (omega arith) in
-    let y = getD s (k + i) 0 in
     ⊎-elim
-    (λ e. ⊎-elim (λ x. refused ps i y (fixedAt qs i) x (fixed-at qs i y b) a) (λ x. refused qs i y (fixedAt ps i) x (fixed-at ps i y a) b)
-    (either (refuses ps i (fixedAt qs i)) (refuses qs i (fixedAt ps i)) e))
+    (λ e. never-byte (admittedAt ps i) (admittedAt qs i) _ e (shape-admits ps k s i h (omega arith)) (shape-admits qs k s i g (omega arith)))
     (λ e. never-both i ps qs k s e (omega arith) h g)
-    (either (refuses ps i (fixedAt qs i) || refuses qs i (fixedAt ps i)) (clashBelow i ps qs) c)
+    (either (clash (admittedAt ps i) (admittedAt qs i)) (clashBelow i ps qs) c)

@@ -9,12 +9,12 @@ use lib.Dec.{ltb}
 use lib.ListN.{length, getD, length-append}
 use Rattle.record.specs.declared.Record.{Record}
 use Rattle.record.specs.declared.answer.Reading.the-variants as reading
-use Rattle.forms.specs.Form.{Form, bytesBy, readBy, sumOf, withSum}
+use Rattle.forms.specs.Form.{Form, readBy, valuesBy}
 use Rattle.forms.specs.Places.{Row, bytesOf, fixed, part, placed}
 use Rattle.forms.specs.Slots.{Values}
-use Rattle.forms.specs.Told.{told}
 use Rattle.forms.specs.Valid.{endByte, lastByte}
-use Rattle.forms.proofs.ReadWrite.{read-write}
+use Rattle.forms.proofs.Accepted.{accepted}
+use Rattle.forms.proofs.ReadWrite.{own}
 use Rattle.forms.proofs.Sound.{isSoundForm, sound-form}
 
 -- the row ends with fixed bytes
@@ -49,7 +49,5 @@ row-end (p ∷ q ∷ ps) v h = last-behind (placed p v) (bytesOf (q ∷ ps) v) (
 
 pub end-byte : (d : Form) → isSoundForm d ≡ true → endsFixed (d .row) ≡ true → (s : List ℕ) (r : Record) → readBy d s ≡ reading.Read r
     → lastByte s ≡ endByte (d .row)
-unfolding bytesBy
 end-byte d o t s r h =
-    subst (λ (x : List ℕ). lastByte x ≡ endByte (d .row)) (read-write d (sound-form d o) s r h .same-bytes)
-    (row-end (d .row) (withSum (told r) (sumOf (d .sum) (bytesOf (d .row) (told r)))) t)
+    subst (λ (x : List ℕ). lastByte x ≡ endByte (d .row)) (own d (sound-form d o) s r (accepted d s r h)) (row-end (d .row) (valuesBy d s) t)

@@ -11,10 +11,15 @@ use lib.ListN.{length, getD}
 use Rattle.choice.specs.Pick.{pick}
 use Rattle.choice.proofs.Tests.{both, both-hold}
 use Rattle.forms.specs.Block.{Line, chosenRow, layoutAt, rowAt}
+use Rattle.forms.specs.Form.{Form}
 use Rattle.forms.specs.Places.{Row, rowWidth, shape}
 use Rattle.forms.proofs.Append.{shape-append, width-append}
 use Rattle.forms.proofs.Clash.{clashBelow, never-both}
 use Rattle.forms.proofs.Lines.{everyLine, isChoice}
+
+-- the form of a row that has no sum
+abbrev pub formOf : Row → Form
+formOf ps = record { size = rowWidth ps; row = ps; checksums = [] }
 
 -- which layout the reader takes for a line, and for each of the lines
 unfoldable pub choiceAt : Line → ℕ → List ℕ → ℕ
@@ -45,7 +50,7 @@ row-at (l ∷ ls) k s = ap₂ (λ (a b : Row). a ++ b) (layout-at l k s) (row-at
 abbrev pub nonempty : Line → Bool
 nonempty l = ltb 0 (length l)
 
-choice-at : (l : Line) (k : ℕ) (s : List ℕ) → nonempty l ≡ true → choiceAt l k s < length l
+pub choice-at : (l : Line) (k : ℕ) (s : List ℕ) → nonempty l ≡ true → choiceAt l k s < length l
 unfolding choiceAt
 choice-at [] k s h = ltb-true 0 0 h
 choice-at (ps ∷ []) k s h = omega arith

@@ -2,20 +2,20 @@
 use mathlib.Core.Path.{_≡_, refl, sym, _∙_, ap}
 use mathlib.Core.Bool.{Bool, true, false, not, _&&_, _||_, false≢true}
 use mathlib.Core.List.{List, [], _∷_, _++_, append-assoc}
-use Prim.Native.Nat.{ℕ, _+_, _≤_, _<_}
+use Prim.Native.Nat.{ℕ, _+_, _≤_}
 use native.Mathlib.Nat.{add-comm}
 use native.Mathlib.Omega.{arith}
 use borrow.Author.Tests.{not-true}
 use lib.ListN.{length, take, drop, length-append, length-drop, take-append-drop}
 use lib.Seq.{take-at, drop-at, drop-drop, drop-length, length-take-le}
 use Rattle.choice.specs.Pick.{pick}
+use Rattle.choice.proofs.Tests.{both}
+use Rattle.spelling.specs.Spelling.{spell, spelledWidth, valueOf}
+use Rattle.spelling.proofs.SameBytes.{same-bytes, same-self}
+use Rattle.spelling.proofs.Spelling.{canSpell, isSound, spell-is, spell-length, spell-value, value-spell}
 use Rattle.forms.specs.Places.{Place, Row, bytesOf, fits, fixed, has, isOf, part, placed, rowWidth, shape, valueAt, values, width}
 use Rattle.forms.specs.Slots.{Slot, Values, same}
-use Rattle.spelling.specs.Spelling.{spell, spelledWidth, valueOf}
-use Rattle.choice.proofs.Tests.{both, other}
 use Rattle.forms.proofs.Slots.{same-slot, slot-self}
-use Rattle.spelling.proofs.SameBytes.{same-bytes, same-self}
-use Rattle.spelling.proofs.Spelling.{can-lt, canSpell, isSound, limit, spell-is, spell-length, spell-value, value-lt, value-spell}
 
 abbrev pub soundPlace : Place → Bool
 soundPlace (fixed bs) = true
@@ -79,7 +79,8 @@ row-read (p ∷ ps) k v front back s l e h r =
     let next : length (front ++ placed p v) ≡ width p + k = length-append front (placed p v) ∙ omega arith in
     let there = row-read ps (width p + k) v (front ++ placed p v) back s next (e ∙ simp append-assoc) (a .1) (b .1) in (
       simp (g, placed-fits p v (a .0) (b .0), there .0),
-      λ f. ap (λ (x : List ℕ). pick (isOf f p) (valueAt p x) (values ps (width p + k) s f)) g ∙ placed-value p ps v f (values ps (width p + k) s f) (a .0) (b .0) (there .1 f),
+      λ f. ap (λ (x : List ℕ). pick (isOf f p) (valueAt p x) (values ps (width p + k) s f)) g
+          ∙ placed-value p ps v f (values ps (width p + k) s f) (a .0) (b .0) (there .1 f),
     )
 
 -- no slot has two places
@@ -112,7 +113,8 @@ module _ (k : ℕ) (s : List ℕ) where
   behind (part c g) ps f a h = go (same f g) refl
     where
       go : (t : Bool) → same f g ≡ t
-          → ((t || has ps f) ≡ true) × (pick t (valueOf c (take (spelledWidth c) (drop k s))) (values ps (spelledWidth c + k) s f) ≡ values ps (spelledWidth c + k) s f)
+          → ((t || has ps f) ≡ true)
+          × (pick t (valueOf c (take (spelledWidth c) (drop k s))) (values ps (spelledWidth c + k) s f) ≡ values ps (spelledWidth c + k) s f)
       go true q = absurd (false≢true (sym (not-true (has ps g) a) ∙ ap (has ps) (sym (same-slot f g q)) ∙ h))
       go false q = (h, refl)
 
@@ -136,48 +138,3 @@ row-write (p ∷ ps) k s v o r a h l e =
     ∙ ap (λ (t : List ℕ). take (width p) (drop k s) ++ t) (sym (drop-drop (width p) k s))
     ∙ take-append-drop (width p) (drop k s) in
     simp (here, there) seam
-
--- the limit of a slot's spelling
-abbrev pub placeLimit : Place → ℕ
-placeLimit (fixed bs) = 0
-placeLimit (part c f) = limit c
-
-unfoldable pub limitOf : Row → Slot → ℕ
-limitOf [] f = 0
-limitOf (p ∷ ps) f = pick (isOf f p) (placeLimit p) (limitOf ps f)
-
-place-lt : (p : Place) (x : List ℕ) (f : Slot) (n m : ℕ) → soundPlace p ≡ true → length x ≡ width p → fits p x ≡ true → (isOf f p ≡ false → n < m)
-    → pick (isOf f p) (valueAt p x) n < pick (isOf f p) (placeLimit p) m
-place-lt (fixed bs) x f n m o l h i = i refl
-place-lt (part c g) x f n m o l h i = go (same f g) i
-  where
-    go : (t : Bool) → (t ≡ false → n < m) → pick t (valueOf c x) n < pick t (limit c) m
-    go true i = value-lt x c o l h
-    go false i = i refl
-
--- what a row tells stays below the limit
-pub values-lt : (ps : Row) (k : ℕ) (s : List ℕ) (f : Slot) → soundRow ps ≡ true → shape ps k s ≡ true → k + rowWidth ps ≤ length s → has ps f ≡ true
-    → values ps k s f < limitOf ps f
-unfolding has values limitOf shape rowWidth soundRow
-values-lt [] k s f o h l i = absurd (false≢true i)
-values-lt (p ∷ ps) k s f o h l i =
-    let a = both (soundPlace p) (soundRow ps) o in
-    let b = both (fits p (take (width p) (drop k s))) (shape ps (width p + k) s) h in
-    place-lt p (take (width p) (drop k s)) f (values ps (width p + k) s f) (limitOf ps f) (a .0) (piece-length k s (width p) (omega arith)) (b .0)
-    (λ e. values-lt ps (width p + k) s f (a .1) (b .1) (omega arith) (other (isOf f p) (has ps f) i e))
-
--- what has room stays below the limit
-room-lt : (p : Place) (v : Values) (f : Slot) (m : ℕ) → roomy p v ≡ true → (isOf f p ≡ false → v f < m) → v f < pick (isOf f p) (placeLimit p) m
-room-lt (fixed bs) v f m h i = i refl
-room-lt (part c g) v f m h i = go (same f g) refl i
-  where
-    go : (t : Bool) → same f g ≡ t → (t ≡ false → v f < m) → v f < pick t (limit c) m
-    go true q i = rw (same-slot f g q) (can-lt (v g) c h)
-    go false q i = i refl
-
-pub roomy-lt : (ps : Row) (v : Values) (f : Slot) → roomyRow ps v ≡ true → has ps f ≡ true → v f < limitOf ps f
-unfolding has limitOf roomyRow
-roomy-lt [] v f h i = absurd (false≢true i)
-roomy-lt (p ∷ ps) v f h i =
-    let b = both (roomy p v) (roomyRow ps v) h in
-    room-lt p v f (limitOf ps f) (b .0) (λ e. roomy-lt ps v f (b .1) (other (isOf f p) (has ps f) i e))

@@ -1,29 +1,63 @@
 -- Slots are told apart by their numbers, and a claim of all slots is one of each in a list.
-use mathlib.Core.Path.{_≡_, refl, sym, _∙_, ap}
-use mathlib.Core.Bool.{Bool, true, _&&_}
-use mathlib.Core.List.{List, [], _∷_}
-use Prim.Native.Nat.{ℕ, zero, suc, _<_}
-use native.Mathlib.Omega.{arith}
+use mathlib.Core.Path.{_≡_, refl, sym, _∙_, ap, subst}
+use mathlib.Core.Bool.{Bool, true, false, _&&_, false≢true}
+use mathlib.Core.List.{List, [], _∷_, _++_}
+use mathlib.Core.Logic.{_⊎_, inl, inr, ⊎-elim}
+use Prim.Native.Nat.{ℕ, zero, suc}
 use borrow.Author.Tests.{eqb-true, eq-eqb}
-use lib.Dec.{lit<}
-use lib.ListN.{length, getD}
-use Rattle.forms.specs.Slots.{Slot, altitude, change, channel, day, daySeconds, deletion, dsp, fix, halfHour, hour, latitudeDegrees, latitudePart, leap, leapSecond, longitudeDegrees, longitudePart, lsp, minus, minute, month, notice, offsetHours, offsetMinutes, ordinal, quality, same, second, slotNumber, south, sum, summer, sync, tenMillionth, thousandth, utc, weekday, west, year, zone}
-use Rattle.choice.proofs.Tests.{both}
+use lib.ListN.{getD}
+use Rattle.choice.proofs.Tests.{both, either, or-left, or-right}
+use Rattle.forms.specs.Slots.{Slot, altitude, among, change, channel, day, daySeconds, deletion, dsp, fix, halfHour, hour, isChecksum}
+use Rattle.forms.specs.Slots.{latitudeDegrees, latitudePart, leap, leapSecond, longitudeDegrees, longitudePart, lsp, minus, minute, month, notice}
+use Rattle.forms.specs.Slots.{ofChecksum, offsetHours, offsetMinutes, ordinal, quality, same, second, slotNumber, south, sum, summer, sync}
+use Rattle.forms.specs.Slots.{tenMillionth, thousandth, utc, weekday, west, year, zone}
+
+-- the slots by what they tell, in the order of their numbers
+
+abbrev pub ofTime : List Slot
+ofTime = hour ∷ minute ∷ second ∷ []
+
+-- what follows from other fields
+abbrev pub derived : List Slot
+derived = weekday ∷ leapSecond ∷ deletion ∷ daySeconds ∷ []
+
+abbrev pub ofDate : List Slot
+ofDate = year ∷ month ∷ day ∷ ordinal ∷ []
+
+abbrev pub ofFraction : List Slot
+ofFraction = thousandth ∷ tenMillionth ∷ []
+
+abbrev pub ofChannel : List Slot
+ofChannel = channel ∷ []
+
+abbrev pub ofFlags : List Slot
+ofFlags = sync ∷ quality ∷ fix ∷ zone ∷ utc ∷ summer ∷ notice ∷ change ∷ leap ∷ dsp ∷ lsp ∷ []
+
+abbrev pub ofOffset : List Slot
+ofOffset = minus ∷ offsetHours ∷ offsetMinutes ∷ halfHour ∷ []
+
+abbrev pub ofPosition : List Slot
+ofPosition = south ∷ latitudeDegrees ∷ latitudePart ∷ west ∷ longitudeDegrees ∷ longitudePart ∷ altitude ∷ []
+
+-- all that tell something of the record
+abbrev pub fieldSlots : List Slot
+fieldSlots = ofTime ++ derived ++ ofDate ++ ofFraction ++ ofChannel ++ ofFlags ++ ofOffset ++ ofPosition
 
 abbrev pub slots : List Slot
-slots =
-    hour ∷ minute ∷ second ∷ year ∷ month ∷ day ∷ ordinal ∷ weekday ∷ leapSecond ∷ thousandth ∷ tenMillionth ∷ channel ∷ sync ∷ quality ∷ fix ∷ zone ∷ utc ∷ summer ∷ notice ∷ change ∷ leap ∷ minus ∷ offsetHours ∷ offsetMinutes ∷ halfHour ∷ south ∷ latitudeDegrees ∷ latitudePart ∷ west ∷ longitudeDegrees ∷ longitudePart ∷ altitude ∷ dsp ∷ lsp ∷ deletion ∷ daySeconds ∷ sum ∷ []
+slots = fieldSlots ++ ofChecksum
 
 slot-at : (f : Slot) → getD slots (slotNumber f) hour ≡ f
 slot-at hour = refl
 slot-at minute = refl
 slot-at second = refl
+slot-at weekday = refl
+slot-at leapSecond = refl
+slot-at deletion = refl
+slot-at daySeconds = refl
 slot-at year = refl
 slot-at month = refl
 slot-at day = refl
 slot-at ordinal = refl
-slot-at weekday = refl
-slot-at leapSecond = refl
 slot-at thousandth = refl
 slot-at tenMillionth = refl
 slot-at channel = refl
@@ -36,6 +70,8 @@ slot-at summer = refl
 slot-at notice = refl
 slot-at change = refl
 slot-at leap = refl
+slot-at dsp = refl
+slot-at lsp = refl
 slot-at minus = refl
 slot-at offsetHours = refl
 slot-at offsetMinutes = refl
@@ -47,10 +83,6 @@ slot-at west = refl
 slot-at longitudeDegrees = refl
 slot-at longitudePart = refl
 slot-at altitude = refl
-slot-at dsp = refl
-slot-at lsp = refl
-slot-at deletion = refl
-slot-at daySeconds = refl
 slot-at sum = refl
 
 pub same-slot : (f g : Slot) → same f g ≡ true → f ≡ g
@@ -59,55 +91,63 @@ same-slot f g h = sym (slot-at f) ∙ ap (λ (n : ℕ). getD slots n hour) (eqb-
 pub slot-self : (f : Slot) → same f f ≡ true
 slot-self f = eq-eqb (slotNumber f) (slotNumber f) refl
 
+-- a claim of each slot of a list
+infixr 1 _and_
+pub data Each (P : Slot → Type 0) : List Slot → Type 0 where
+  none : Each P []
+  _and_ : {f : Slot} {fs : List Slot} → P f → Each P fs → Each P (f ∷ fs)
+
+infixr 1 _then_
+pub _then_ : {P : Slot → Type 0} {a b : List Slot} → Each P a → Each P b → Each P (a ++ b)
+none then q = q
+(p and ps) then q = p and (ps then q)
+
+pub listed : (P : Slot → Type 0) (fs : List Slot) → Each P fs → (f : Slot) → among f fs ≡ true → P f
+listed P [] none f h = absurd (false≢true h)
+listed P (g ∷ fs) (p and ps) f h = ⊎-elim (λ e. subst P (sym (same-slot f g e)) p) (λ e. listed P fs ps f e) (either (same f g) (among f fs) h)
+
+pub each : (P : Slot → Type 0) (fs : List Slot) → ((f : Slot) → among f fs ≡ true → P f) → Each P fs
+each P [] p = none
+each P (f ∷ fs) p = p f (or-left (same f f) (among f fs) (slot-self f)) and each P fs (λ g h. p g (or-right (same g f) (among g fs) h))
+
+getD-among : (f : Slot) (fs : List Slot) (n : ℕ) → getD fs n hour ≡ f → (among f fs ≡ true) ⊎ (hour ≡ f)
+getD-among f [] n e = inr e
+getD-among f (g ∷ fs) zero e = inl (or-left (same f g) (among f fs) (rw e (slot-self f)))
+getD-among f (g ∷ fs) (suc n) e = ⊎-elim (λ h. inl (or-right (same f g) (among f fs) h)) (λ h. inr h) (getD-among f fs n e)
+
+-- every slot is in the list
+pub slot-among : (f : Slot) → among f slots ≡ true
+slot-among f = ⊎-elim (λ h. h) (λ e. subst (λ (g : Slot). among g slots ≡ true) e refl) (getD-among f slots (slotNumber f) (slot-at f))
+
+among-append : (f : Slot) (a b : List Slot) → among f (a ++ b) ≡ true → (among f a ≡ true) ⊎ (among f b ≡ true)
+among-append f [] b h = inr h
+among-append f (g ∷ a) b h =
+    ⊎-elim
+    (λ e. inl (or-left (same f g) (among f a) e))
+    (λ e. ⊎-elim (λ i. inl (or-right (same f g) (among f a) i)) (λ i. inr i) (among-append f a b e))
+    (either (same f g) (among f (a ++ b)) h)
+
+pub field-slot : (f : Slot) → isChecksum f ≡ false → among f fieldSlots ≡ true
+field-slot f n = ⊎-elim (λ h. h) (λ h. absurd (false≢true (sym n ∙ h))) (among-append f fieldSlots ofChecksum (slot-among f))
+
+-- a claim of every slot
+pub every-each : (P : Slot → Type 0) → Each P slots → (f : Slot) → P f
+every-each P p f = listed P slots p f (slot-among f)
+
 -- a test of every slot
 unfoldable pub every : List Slot → (Slot → Bool) → Bool
 every [] t = true
 every (f ∷ fs) t = t f && every fs t
 
-every-at : (fs : List Slot) (t : Slot → Bool) → every fs t ≡ true → (n : ℕ) → n < length fs → t (getD fs n hour) ≡ true
+every-of : (fs : List Slot) (t : Slot → Bool) → every fs t ≡ true → Each (λ (f : Slot). t f ≡ true) fs
 unfolding every
-every-at [] t h n l = absurd (omega (arith, l))
-every-at (f ∷ fs) t h zero l = both (t f) (every fs t) h .0
-every-at (f ∷ fs) t h (suc n) l = every-at fs t (both (t f) (every fs t) h .1) n (omega arith)
+every-of [] t h = none
+every-of (f ∷ fs) t h =
+    let e = both (t f) (every fs t) h in
+    e .0 and every-of fs t (e .1)
 
-slot-lt : (f : Slot) → slotNumber f < 37
-slot-lt hour = lit< tt
-slot-lt minute = lit< tt
-slot-lt second = lit< tt
-slot-lt year = lit< tt
-slot-lt month = lit< tt
-slot-lt day = lit< tt
-slot-lt ordinal = lit< tt
-slot-lt weekday = lit< tt
-slot-lt leapSecond = lit< tt
-slot-lt thousandth = lit< tt
-slot-lt tenMillionth = lit< tt
-slot-lt channel = lit< tt
-slot-lt sync = lit< tt
-slot-lt quality = lit< tt
-slot-lt fix = lit< tt
-slot-lt zone = lit< tt
-slot-lt utc = lit< tt
-slot-lt summer = lit< tt
-slot-lt notice = lit< tt
-slot-lt change = lit< tt
-slot-lt leap = lit< tt
-slot-lt minus = lit< tt
-slot-lt offsetHours = lit< tt
-slot-lt offsetMinutes = lit< tt
-slot-lt halfHour = lit< tt
-slot-lt south = lit< tt
-slot-lt latitudeDegrees = lit< tt
-slot-lt latitudePart = lit< tt
-slot-lt west = lit< tt
-slot-lt longitudeDegrees = lit< tt
-slot-lt longitudePart = lit< tt
-slot-lt altitude = lit< tt
-slot-lt dsp = lit< tt
-slot-lt lsp = lit< tt
-slot-lt deletion = lit< tt
-slot-lt daySeconds = lit< tt
-slot-lt sum = lit< tt
+pub every-in : (fs : List Slot) (t : Slot → Bool) → every fs t ≡ true → (f : Slot) → among f fs ≡ true → t f ≡ true
+every-in fs t h = listed (λ (f : Slot). t f ≡ true) fs (every-of fs t h)
 
 pub every-slot : (t : Slot → Bool) → every slots t ≡ true → (f : Slot) → t f ≡ true
-every-slot t h f = ap t (sym (slot-at f)) ∙ every-at slots t h (slotNumber f) (slot-lt f)
+every-slot t h f = every-in slots t h f (slot-among f)

@@ -1,27 +1,24 @@
 -- The start byte of a form stands at the head of a valid string and nowhere else in it.
-use mathlib.Core.Path.{_≡_, sym, _∙_, ap, subst}
+use mathlib.Core.Path.{_≡_, subst}
 use mathlib.Core.Bool.{Bool, true, false, not, _&&_, false≢true}
 use mathlib.Core.List.{List, [], _∷_, _++_}
-use Prim.Native.Nat.{ℕ, zero, suc, _+_, _<_}
-use native.Mathlib.Nat.{add-zero}
+use Prim.Native.Nat.{ℕ, zero, suc, _<_}
 use native.Mathlib.Omega.{arith}
 use borrow.Author.Tests.{eqb-false, eqb-true, not-true}
 use lib.Dec.{eqb}
-use lib.ListN.{length, getD, take, drop}
-use lib.Seq.{getD-take, getD-drop}
-use Rattle.record.specs.declared.answer.Reading.the-variants as reading
-use Rattle.record.specs.declared.Record.{Record}
+use lib.ListN.{length, getD}
+use Rattle.choice.proofs.Tests.{both}
 use Rattle.spelling.specs.Bytes.{allAre}
-use Rattle.forms.specs.Form.{Form, bytesBy, readBy, sumOf, withSum}
+use Rattle.record.specs.declared.Record.{Record}
+use Rattle.record.specs.declared.answer.Reading.the-variants as reading
+use Rattle.forms.specs.Form.{Form, readBy, valuesBy}
 use Rattle.forms.specs.Places.{Row, bytesOf, fixed, part}
 use Rattle.forms.specs.Slots.{Values}
 use Rattle.forms.specs.Start.{OnlyAtHead}
-use Rattle.forms.specs.Told.{told}
 use Rattle.forms.proofs.Accepted.{accepted}
-use Rattle.forms.proofs.Allowed.{allowsRow, append-all, row-all, all-at}
-use Rattle.forms.proofs.ReadWrite.{read-write}
+use Rattle.forms.proofs.Allowed.{all-at, allowsRow, append-all, row-all}
+use Rattle.forms.proofs.ReadWrite.{own}
 use Rattle.forms.proofs.Sound.{isSoundForm, sound-form}
-use Rattle.choice.proofs.Tests.{both}
 
 abbrev pub otherThan : ℕ → ℕ → Bool
 otherThan b c = not (eqb c b)
@@ -52,19 +49,4 @@ row-head b (fixed (c ∷ bs) ∷ ps) v h =
 
 pub start-byte : (d : Form) → isSoundForm d ≡ true → (b : ℕ) → startsWith b (d .row) ≡ true → (s : List ℕ) (r : Record) → readBy d s ≡ reading.Read r
     → OnlyAtHead b s
-unfolding bytesBy
-start-byte d o b t s r h =
-    let c = read-write d (sound-form d o) s r h in
-    subst (OnlyAtHead b) (c .same-bytes) (row-head b (d .row) (withSum (told r) (sumOf (d .sum) (bytesOf (d .row) (told r)))) t)
-
--- two valid strings in one list of bytes do not overlap
-pub no-overlap : (d : Form) → isSoundForm d ≡ true → (b : ℕ) → startsWith b (d .row) ≡ true → (t : List ℕ) (i k : ℕ) (r q : Record) → 0 < k → k < d .size
-    → readBy d (take (d .size) (drop i t)) ≡ reading.Read r → readBy d (take (d .size) (drop (i + k) t)) ≡ reading.Read q → ⊥
-no-overlap d o b w t i k r q l m h g =
-    let n = d .size in
-    let first = start-byte d o b w (take n (drop i t)) r h in
-    let second = start-byte d o b w (take n (drop (i + k) t)) q g in
-    let long = accepted d (take n (drop i t)) r h .long in
-    let there : getD t (i + k) 0 ≡ b =
-    ap (λ (x : ℕ). getD t x 0) (sym (add-zero (i + k))) ∙ sym (getD-drop (i + k) t 0 0) ∙ sym (getD-take n (drop (i + k) t) 0 0 (omega arith)) ∙ second .head in
-    first .nowhere-else k l (omega arith) (getD-take n (drop i t) k 0 m ∙ getD-drop i t k 0 ∙ there)
+start-byte d o b t s r h = subst (OnlyAtHead b) (own d (sound-form d o) s r (accepted d s r h)) (row-head b (d .row) (valuesBy d s) t)

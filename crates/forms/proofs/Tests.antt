@@ -1,4 +1,4 @@
--- The reader's answer, test by test, over any form: each reader cites these in the order 2, 3, 6, 4, 5.
+-- The reader's first tests, over any form, in the order 2, 3, 6; `read-judged` of Accepted has the answer after them.
 use mathlib.Core.Path.{_≡_, refl, _∙_, ap}
 use mathlib.Core.Bool.{true, false}
 use mathlib.Core.List.{List, [], _∷_}
@@ -8,15 +8,15 @@ use lib.ListN.{length, getD}
 use Rattle.spelling.specs.Bytes.{sameBytes}
 use Rattle.record.specs.declared.answer.Reading.the-variants as reading
 use Rattle.record.specs.declared.refusal.Refusal.the-variants as refusal
-use Rattle.forms.specs.Form.{Form, carries, judged, noSum, ranges, readBy, readRow, sumHolds, ties, valuesBy}
+use Rattle.forms.specs.Checksum.{checksumsHold}
+use Rattle.forms.specs.Form.{Form, readBy, readRow, valuesBy}
 use Rattle.forms.specs.Places.{Row, fixed, shape}
-use Rattle.forms.specs.Slots.{sum}
-use Rattle.forms.specs.Spelled.{recordFrom}
+use Rattle.forms.specs.Slots.{Values}
 
 -- a form without a sum asks none
-pub no-sum : (s : List ℕ) (x : ℕ) → sumHolds noSum s x ≡ true
-unfolding sumHolds
-no-sum s x = refl
+pub no-sum : (s : List ℕ) (v : Values) → checksumsHold [] s v ≡ true
+unfolding checksumsHold
+no-sum s v = refl
 
 module _ (d : Form) (s : List ℕ) where
   pub wrong-length : (length s ≡ d .size → ⊥) → readBy d s ≡ reading.Refused refusal.WrongLength
@@ -29,23 +29,9 @@ module _ (d : Form) (s : List ℕ) where
     wrong-byte h = simp (eq-eqb (length s) (d .size) l, h)
 
     module _ (h : shape (d .row) 0 s ≡ true) where
-      pub wrong-sum : sumHolds (d .sum) s (valuesBy d s sum) ≡ false → readBy d s ≡ reading.Refused refusal.WrongSum
+      pub wrong-sum : checksumsHold (d .checksums) s (valuesBy d s) ≡ false → readBy d s ≡ reading.Refused refusal.WrongSum
       unfolding readBy readRow
       wrong-sum q = simp (eq-eqb (length s) (d .size) l, h, q)
-
-      module _ (q : sumHolds (d .sum) s (valuesBy d s sum) ≡ true) where
-        pub out-of-range : ranges (carries d) (valuesBy d s) ≡ false → readBy d s ≡ reading.Refused refusal.OutOfRange
-        unfolding readBy readRow judged
-        out-of-range r = simp (eq-eqb (length s) (d .size) l, h, q, r)
-
-        module _ (r : ranges (carries d) (valuesBy d s) ≡ true) where
-          pub disagreement : ties (carries d) (valuesBy d s) ≡ false → readBy d s ≡ reading.Refused refusal.Disagreement
-          unfolding readBy readRow judged
-          disagreement t = simp (eq-eqb (length s) (d .size) l, h, q, r, t)
-
-          pub read-as : ties (carries d) (valuesBy d s) ≡ true → readBy d s ≡ reading.Read (recordFrom (carries d) (valuesBy d s))
-          unfolding readBy readRow judged
-          read-as t = simp (eq-eqb (length s) (d .size) l, h, q, r, t)
 
 -- a row that starts with a fixed byte fits no string that starts with another
 pub first-byte : (b : ℕ) (bs : List ℕ) (ps : Row) (s : List ℕ) → (getD s 0 0 ≡ b → ⊥) → shape (fixed (b ∷ bs) ∷ ps) 0 s ≡ false

@@ -7,15 +7,14 @@ use native.Mathlib.Omega.{arith}
 use borrow.Author.Tests.{le-leb}
 use lib.Dec.{leb}
 use Rattle.choice.specs.Pick.{pick}
+use Rattle.record.specs.Record.{isGood}
 use Rattle.record.specs.declared.Record.{Record}
 use Rattle.record.specs.declared.answer.Writing.{Writing}
 use Rattle.record.specs.declared.answer.Writing.the-variants as writing
 use Rattle.record.specs.declared.refusal.Refusal.{Refusal}
-use Rattle.record.specs.Record.{isGood}
 use Rattle.forms.specs.Demand2.{Trips}
-use Rattle.forms.specs.Form.{Form, carries, writeBy}
+use Rattle.forms.specs.Form.{Form, carries, isExpressible, writeBy}
 use Rattle.forms.specs.Needs.{hasAll}
-use Rattle.forms.specs.Places.{allWorded}
 use Rattle.forms.specs.Told.{told}
 use Rattle.forms.proofs.ReadWrite.{Rewritten, read-write}
 use Rattle.forms.proofs.Sound.{isSoundForm, sound-form}
@@ -36,7 +35,7 @@ written-size n k h = cc
 pub record Taken (d : Form) (r : Record) (k : ℕ) : Type 0 where
   pub good : isGood r ≡ true
   pub complete : hasAll (carries d) r ≡ true
-  pub spellable : allWorded (d .row) (told r) ≡ true
+  pub spellable : isExpressible (d .row) (told r) ≡ true
   pub size : d .size ≡ k
 
 pub taken-by : (d : Form) (r : Record) (n k : ℕ) → writeBy d r n ≡ writing.Written k → Taken d r k
@@ -44,7 +43,7 @@ unfolding writeBy
 taken-by d r n k h =
     let a = passed (isGood r) _ _ k h in
     let b = passed (hasAll (carries d) r) _ _ k (a .1) in
-    let c = passed (allWorded (d .row) (told r)) _ _ k (b .1) in
+    let c = passed (isExpressible (d .row) (told r)) _ _ k (b .1) in
     let e = passed (leb (d .size) n) _ _ k (c .1) in
     record { good = a .0; complete = b .0; spellable = c .0; size = written-size (d .size) k (e .1) }
 

@@ -1,18 +1,17 @@
--- The writer's answer, test by test, over any form: each writer cites these in the order 7, 8, 9, 10.
+-- The writer's answer, test by test, over any form, in the order 7, 8, 9, 10; the writers of one length have it from `admitted` of layout.
 use mathlib.Core.Path.{_≡_, sym, _∙_}
 use mathlib.Core.Bool.{true, false}
 use mathlib.Core.List.{List, _++_}
 use Prim.Native.Nat.{ℕ, _≤_, _<_}
 use borrow.Author.Tests.{le-leb, lt-leb}
 use lib.ListN.{length, drop}
+use Rattle.record.specs.Record.{isGood}
 use Rattle.record.specs.declared.Record.{Record}
 use Rattle.record.specs.declared.answer.Writing.the-variants as writing
 use Rattle.record.specs.declared.refusal.Refusal.{Refusal}
 use Rattle.record.specs.declared.refusal.Refusal.the-variants as refusal
-use Rattle.record.specs.Record.{isGood}
-use Rattle.forms.specs.Form.{Form, Wrote, bytesBy, carries, writeBy}
+use Rattle.forms.specs.Form.{Form, Wrote, bytesBy, carries, isExpressible, writeBy}
 use Rattle.forms.specs.Needs.{hasAll}
-use Rattle.forms.specs.Places.{allWorded}
 use Rattle.forms.specs.Told.{told}
 use Rattle.forms.proofs.Keeps.{left-refused, left-written}
 
@@ -30,11 +29,11 @@ module _ (d : Form) (r : Record) (o : List ℕ) where
     missing-field h = refused refusal.MissingField (simp (g, h))
 
     module _ (h : hasAll (carries d) r ≡ true) where
-      pub not-expressible : allWorded (d .row) (told r) ≡ false → Wrote d r (writing.Refused refusal.NotExpressible) o o
+      pub not-expressible : isExpressible (d .row) (told r) ≡ false → Wrote d r (writing.Refused refusal.NotExpressible) o o
       unfolding writeBy
       not-expressible w = refused refusal.NotExpressible (simp (g, h, w))
 
-      module _ (w : allWorded (d .row) (told r) ≡ true) where
+      module _ (w : isExpressible (d .row) (told r) ≡ true) where
         pub short-buffer : length o < d .size → Wrote d r (writing.Refused refusal.ShortBuffer) o o
         unfolding writeBy
         short-buffer l = refused refusal.ShortBuffer (simp (g, h, w, lt-leb (d .size) (length o) l))

@@ -125,16 +125,19 @@ blockFull =
 -- fields exchanged
 pub record Known : Type 0 where
   pub standard : Answers (readForm 1 (text "\u{2}D:28.07.45;T:5;U:13.56.19;# UA\u{3}")) 0 (standardOf known 13 56 19 No Yes Yes No No Yes)
-  pub capture : Answers (readForm 2 (text "CH1 28.07.45 13:56:19.2034678\r\n")) 0 (splitOf known 13 56 19 (fractionIs.TenMillionths 2034678) (channelIs.Number 1))
+  pub capture : Answers (readForm 2 (text "CH1 28.07.45 13:56:19.2034678\r\n")) 0
+      (splitOf known 13 56 19 (fractionIs.TenMillionths 2034678) (channelIs.Number 1))
   pub erlangen : Answers (readForm 3 (text "\u{2}28.07.45; 5; 13:56:19; -03:42; # S A  ; 33.8688S 151.2093E  431m\u{3}")) 0
-      (fields known 13 56 19 fractionIs.Absent channelIs.Absent No Yes Absent Yes No Yes (offsetIs.Minutes (negsuc 221)) (positionIs.Degrees (negsuc 338687) (pos 1512093) 431) Absent Absent)
+      (fields known 13 56 19 fractionIs.Absent channelIs.Absent No Yes Absent Yes No Yes
+      (offsetIs.Minutes (negsuc 221)) (positionIs.Degrees (negsuc 338687) (pos 1512093) 431) Absent Absent)
   pub spa : Answers (readForm 4 (text ">900WD:45-07-28 13.56;19.204:3C\r")) 0 (splitOf known 13 56 19 (fractionIs.Thousandths 204) channelIs.Absent)
   pub racal : Answers (readForm 5 (text "XGU450728135619\r")) 0 (syncedOf known 13 56 19 Absent)
   pub sysplex : Answers (readForm 6 (text "\u{1}209:13:56:19 \r\n")) 0 (syncedOf (dateIs.DayOfYear 209) 13 56 19 Yes)
   pub computime : Answers (readForm 7 (text "T:45:07:28:05:13:56:19\r\n")) 0 (syncedOf known 13 56 19 Absent)
   pub frame : (placesOf 2 0 (framed recordFramed) ≡ 0 ∷ 9 ∷ 19 ∷ 29 ∷ 39 ∷ 49 ∷ 59 ∷ 69 ∷ 79 ∷ 89 ∷ 99 ∷ [])
       × (placesOf 1 0 (framed recordFramed)
-      ≡ 1 ∷ 4 ∷ 6 ∷ 11 ∷ 12 ∷ 15 ∷ 17 ∷ 20 ∷ 21 ∷ 25 ∷ 30 ∷ 33 ∷ 41 ∷ 50 ∷ 52 ∷ 57 ∷ 62 ∷ 63 ∷ 64 ∷ 65 ∷ 66 ∷ 70 ∷ 71 ∷ 72 ∷ 73 ∷ 74 ∷ 80 ∷ 81 ∷ 91 ∷ 95 ∷ 96 ∷ [])
+      ≡ 1 ∷ 4 ∷ 6 ∷ 11 ∷ 12 ∷ 15 ∷ 17 ∷ 20 ∷ 21 ∷ 25 ∷ 30 ∷ 33 ∷ 41 ∷ 50
+      ∷ 52 ∷ 57 ∷ 62 ∷ 63 ∷ 64 ∷ 65 ∷ 66 ∷ 70 ∷ 71 ∷ 72 ∷ 73 ∷ 74 ∷ 80 ∷ 81 ∷ 91 ∷ 95 ∷ 96 ∷ [])
       × Answers (readForm 8 (framed recordFramed)) 0 recordFramed
   pub block : (writeForm 9 recordFull 174 ≡ writing.Written 169)
       × (leftForm 9 recordFull (replicate 169 0) ≡ blockFull)
@@ -144,7 +147,8 @@ pub record Known : Type 0 where
 -- 117 or 175 bytes: 2." and the other lines of the bench
 pub record Further : Type 0 where
   pub erlangen : Answers (readForm 3 (text "\u{2}01.01.24; 1; 13:00:00; +01:00; #*     ; 47.3500N   8.0625E  431m\u{3}")) 0
-      (fields (dateIs.Full 24 1 1) 13 0 0 fractionIs.Absent channelIs.Absent No No Absent No No No (offsetIs.Minutes (pos 60)) (positionIs.Degrees (pos 473500) (pos 80625) 431) Absent Absent)
+      (fields (dateIs.Full 24 1 1) 13 0 0 fractionIs.Absent channelIs.Absent No No Absent No No No
+      (offsetIs.Minutes (pos 60)) (positionIs.Degrees (pos 473500) (pos 80625) 431) Absent Absent)
   pub south-on-zero : Answers (readForm 3 (text "\u{2}01.01.24; 1; 13:00:00; +01:00; #*     ;  0.0000S   8.0625E  431m\u{3}")) 5 emptyRecord
   pub buffer-31 : writeNumber (writeForm 1 (standardOf (dateIs.Full 24 1 1) 12 0 0 Yes Yes Yes No No No) 31) ≡ 10
   pub buffer-32 : writeForm 1 (standardOf (dateIs.Full 24 1 1) 12 0 0 Yes Yes Yes No No No) 32 ≡ writing.Written 32

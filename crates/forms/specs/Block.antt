@@ -1,6 +1,6 @@
 -- The block: "Lines closed by LF, these keys in this order"; "A line is key, `=`, value. `-` is absent; time has no such value."
 use mathlib.Core.Bool.{_&&_}
-use mathlib.Core.List.{List, [], _∷_, _++_}
+use mathlib.Core.List.{List, _∷_, _++_, []}
 use Prim.Native.Nat.{ℕ, _+_}
 use Prim.Native.String.{String}
 use lib.Dec.{eqb, leb}
@@ -8,23 +8,17 @@ use lib.ListN.{length, getD}
 use Rattle.choice.specs.Pick.{pick}
 use Rattle.spelling.specs.Bytes.{text}
 use Rattle.spelling.specs.Spelling.{digits, word}
-use Rattle.record.specs.declared.Channel.{Channel}
-use Rattle.record.specs.declared.Channel.the-variants as channelIs
-use Rattle.record.specs.declared.Date.{Date}
-use Rattle.record.specs.declared.Date.the-variants as dateIs
-use Rattle.record.specs.declared.Flag.{Flag}
-use Rattle.record.specs.declared.Flag.the-variants as flagIs
-use Rattle.record.specs.declared.Fraction.{Fraction}
-use Rattle.record.specs.declared.Fraction.the-variants as fractionIs
-use Rattle.record.specs.declared.Offset.{Offset}
-use Rattle.record.specs.declared.Offset.the-variants as offsetIs
-use Rattle.record.specs.declared.Position.{Position}
-use Rattle.record.specs.declared.Position.the-variants as positionIs
 use Rattle.record.specs.declared.Record.{Record}
 use Rattle.record.specs.declared.answer.Reading.{Reading}
 use Rattle.record.specs.declared.answer.Reading.the-variants as reading
 use Rattle.record.specs.declared.refusal.Refusal.the-variants as refusal
-use Rattle.forms.specs.Form.{Form, noSum, readRow}
+use Rattle.forms.specs.Fields.Channel.{channelChoice}
+use Rattle.forms.specs.Fields.Date.{dateChoice}
+use Rattle.forms.specs.Fields.Flag.{flagChoice}
+use Rattle.forms.specs.Fields.Fraction.{fractionChoice}
+use Rattle.forms.specs.Fields.Offset.{offsetChoice}
+use Rattle.forms.specs.Fields.Position.{positionChoice}
+use Rattle.forms.specs.Form.{Form, readRow}
 use Rattle.forms.specs.Places.{Row, letter, lit, one, part, rowWidth, shape, two}
 use Rattle.forms.specs.Slots.{Slot, altitude, change, channel, day, dsp, fix, hour, latitudeDegrees, latitudePart, leap, longitudeDegrees, longitudePart, lsp, minus, minute, month, offsetHours, offsetMinutes, ordinal, second, south, summer, sync, tenMillionth, thousandth, utc, west, year}
 
@@ -96,43 +90,21 @@ unfoldable pub rowAt : List Line → ℕ → List ℕ → Row
 rowAt [] k s = []
 rowAt (l ∷ ls) k s = layoutAt l k s ++ rowAt ls (rowWidth (layoutAt l k s) + k) s
 
--- the answer of the reader: "118..174" bytes, and all of them are these lines
-unfoldable pub readBlock : List ℕ → Reading
-readBlock s =
-    pick (leb 118 (length s) && leb (length s) 174)
-    (pick (eqb (rowWidth (rowAt blockLines 0 s)) (length s)) (readRow (rowAt blockLines 0 s) noSum s) (reading.Refused refusal.WrongByte))
+-- an edition of the block: its lines, which layout of each a record takes, and the least and the greatest number of bytes
+pub record Edition : Type 0 where
+  pub lines : List Line
+  pub choices : Record → List ℕ
+  pub least : ℕ
+  pub most : ℕ
+
+-- the answer of the reader: so many bytes, and all of them are these lines
+unfoldable pub readBlock : Edition → List ℕ → Reading
+readBlock e s =
+    pick (leb (e .least) (length s) && leb (length s) (e .most))
+    (pick (eqb (rowWidth (rowAt (e .lines) 0 s)) (length s)) (readRow (rowAt (e .lines) 0 s) [] s) (reading.Refused refusal.WrongByte))
     (reading.Refused refusal.WrongLength)
 
 -- writing
-
--- which layout of its line a field takes
-
-abbrev pub dateChoice : Date → ℕ
-dateChoice dateIs.Absent = 0
-dateChoice (dateIs.Full y m d) = 1
-dateChoice (dateIs.DayOfYear n) = 2
-
-abbrev pub fractionChoice : Fraction → ℕ
-fractionChoice fractionIs.Absent = 0
-fractionChoice (fractionIs.Thousandths n) = 1
-fractionChoice (fractionIs.TenMillionths n) = 2
-
-abbrev pub channelChoice : Channel → ℕ
-channelChoice channelIs.Absent = 0
-channelChoice (channelIs.Number n) = 1
-
-abbrev pub flagChoice : Flag → ℕ
-flagChoice flagIs.Absent = 0
-flagChoice flagIs.No = 1
-flagChoice flagIs.Yes = 2
-
-abbrev pub offsetChoice : Offset → ℕ
-offsetChoice offsetIs.Absent = 0
-offsetChoice (offsetIs.Minutes z) = 1
-
-abbrev pub positionChoice : Position → ℕ
-positionChoice positionIs.Absent = 0
-positionChoice (positionIs.Degrees lat lon alt) = 1
 
 -- a choice for each line
 abbrev pub choices : Record → List ℕ
@@ -147,6 +119,11 @@ chosenRow [] cs = []
 chosenRow (l ∷ ls) [] = []
 chosenRow (l ∷ ls) (c ∷ cs) = getD l c [] ++ chosenRow ls cs
 
--- form 9 as the writer lays it out for a record
-unfoldable pub blockOf : Record → Form
-blockOf r = record { size = rowWidth (chosenRow blockLines (choices r)); row = chosenRow blockLines (choices r); sum = noSum }
+-- an edition as the writer lays it out for a record
+unfoldable pub blockOf : Edition → Record → Form
+blockOf e r =
+    record { size = rowWidth (chosenRow (e .lines) (e .choices r)); row = chosenRow (e .lines) (e .choices r); checksums = [] }
+
+-- form 9, "118..174" bytes
+abbrev pub firstEdition : Edition
+firstEdition = record { lines = blockLines; choices = choices; least = 118; most = 174 }

@@ -1,24 +1,11 @@
 -- What a form carries beside the time, computed from its row.
-use mathlib.Core.Bool.{Bool, true, false}
-use Rattle.choice.specs.Pick.{pick}
+use mathlib.Core.Bool.{Bool}
+use Rattle.forms.specs.Fields.Date.{DateKind, dateKind}
+use Rattle.forms.specs.Fields.Flag.{FlagKind, firstKind, ownKind, secondKind, syncKind}
+use Rattle.forms.specs.Fields.Fraction.{FractionKind, fractionKind}
+use Rattle.forms.specs.Fields.Offset.{OffsetKind, offsetKind}
 use Rattle.forms.specs.Places.{Row, has}
-use Rattle.forms.specs.Slots.{change, channel, daySeconds, dsp, fix, halfHour, leap, leapSecond, lsp, minus, month, notice, ordinal, quality, south, summer, sync, tenMillionth, thousandth, utc, weekday, year, zone}
-
--- "a full date or a day of year alone", or none; the frame tells a full date by its year and the day of it
-pub data DateKind : Type 0 where
-  noDate fullDate yearAndDay ordinalDate : DateKind
-
--- "thousandths .. or ten-millionths", or none
-pub data FractionKind : Type 0 where
-  noFraction thousandths tenMillionths : FractionKind
-
--- a yes or no field has a letter of its own, is the first or the second of two that share one, or is told by the TFOM
-pub data FlagKind : Type 0 where
-  noFlag ownLetter firstOfTwo secondOfTwo byQuality : FlagKind
-
--- an offset in hours and minutes, or in hours and half hours
-pub data OffsetKind : Type 0 where
-  noOffset inMinutes inHalfHours : OffsetKind
+use Rattle.forms.specs.Slots.{change, channel, daySeconds, dsp, fix, leap, leapSecond, lsp, notice, quality, south, summer, sync, utc, weekday, zone}
 
 -- the column "carries beside time", and whether the row tells the weekday, the leap second and the seconds of the day
 pub record Carries : Type 0 where
@@ -43,33 +30,20 @@ pub record Carries : Type 0 where
 unfoldable pub carriesOf : Row → Carries
 carriesOf ps =
     record {
-      date = pick (has ps month) fullDate (pick (has ps year) yearAndDay (pick (has ps ordinal) ordinalDate noDate));
-      fraction = pick (has ps thousandth) thousandths (pick (has ps tenMillionth) tenMillionths noFraction);
+      date = dateKind ps;
+      fraction = fractionKind ps;
       channel = has ps channel;
-      sync = pick (has ps sync) ownLetter (pick (has ps quality) byQuality noFlag);
-      fix = pick (has ps fix) ownLetter noFlag;
-      utc = pick (has ps zone) firstOfTwo (pick (has ps utc) ownLetter noFlag);
-      summer = pick (has ps zone) secondOfTwo (pick (has ps summer) ownLetter noFlag);
-      change = pick (has ps notice) firstOfTwo (pick (has ps change) ownLetter noFlag);
-      leap = pick (has ps notice) secondOfTwo (pick (has ps leap) ownLetter noFlag);
-      offset = pick (has ps halfHour) inHalfHours (pick (has ps minus) inMinutes noOffset);
+      sync = syncKind (has ps sync) (has ps quality);
+      fix = ownKind (has ps fix);
+      utc = firstKind (has ps zone) (has ps utc);
+      summer = secondKind (has ps zone) (has ps summer);
+      change = firstKind (has ps notice) (has ps change);
+      leap = secondKind (has ps notice) (has ps leap);
+      offset = offsetKind ps;
       position = has ps south;
-      dsp = pick (has ps dsp) ownLetter noFlag;
-      lsp = pick (has ps lsp) ownLetter noFlag;
+      dsp = ownKind (has ps dsp);
+      lsp = ownKind (has ps lsp);
       weekday = has ps weekday;
       leapSecond = has ps leapSecond;
       daySeconds = has ps daySeconds;
     }
-
--- the form tells the field
-abbrev pub isCarried : FlagKind → Bool
-isCarried noFlag = false
-isCarried ownLetter = true
-isCarried firstOfTwo = true
-isCarried secondOfTwo = true
-isCarried byQuality = true
-
-abbrev pub isOffset : OffsetKind → Bool
-isOffset noOffset = false
-isOffset inMinutes = true
-isOffset inHalfHours = true

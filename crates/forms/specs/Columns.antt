@@ -1,26 +1,17 @@
 -- The table of the forms: bytes, and the column "carries beside time", its words in the order of the block's lines.
 use mathlib.Core.Bool.{Bool, true, false}
-use mathlib.Core.List.{List, [], _∷_, _++_}
+use mathlib.Core.List.{List, _∷_, _++_, []}
 use mathlib.Core.Path.{_≡_}
 use Prim.Native.Nat.{ℕ}
 use Prim.Native.String.{String}
-use Rattle.forms.specs.Carries.{Carries, DateKind, FractionKind, fullDate, isCarried, isOffset, noDate, noFraction, ordinalDate, tenMillionths, thousandths, yearAndDay}
+use Rattle.forms.specs.Carries.{Carries}
+use Rattle.forms.specs.Fields.Date.{dateWord}
+use Rattle.forms.specs.Fields.Flag.{isCarried}
+use Rattle.forms.specs.Fields.Fraction.{fractionWord}
+use Rattle.forms.specs.Fields.Offset.{isOffset}
 use Rattle.forms.specs.Form.{Form, carries}
 use Rattle.forms.specs.Frame.{frame}
 use Rattle.forms.specs.Serial.{capture, computime, erlangen, racal, spa, standard, sysplex}
-
--- the table's word for the date
-abbrev pub dateWord : DateKind → List String
-dateWord noDate = []
-dateWord fullDate = "full date" ∷ []
-dateWord yearAndDay = "full date" ∷ []
-dateWord ordinalDate = "day of year" ∷ []
-
--- the table's word for the fraction
-abbrev pub fractionWord : FractionKind → List String
-fractionWord noFraction = []
-fractionWord thousandths = "thousandths" ∷ []
-fractionWord tenMillionths = "ten-millionths" ∷ []
 
 -- a word where the field is carried
 abbrev pub wordIf : Bool → String → List String

@@ -29,13 +29,14 @@ pub record Trips (d : Form) : Type 0 where
 -- what a form keeps of a record; the block keeps every field
 abbrev pub keptAs : Layout → Record → Record
 keptAs (sized d) r = kept (carries d) r
-keptAs block r = r
+keptAs (block e) r = r
 keptAs unknown r = r
 
 -- the same in terms of answers and buffers, for a form of one length and for the block
 pub record Keeps (l : Layout) : Type 0 where
   -- "A record written and read back keeps exactly its carried fields"
-  pub written : (r : Record) (out : List ℕ) (k : ℕ) → writeAs l r (length out) ≡ writing.Written k → readAs l (take k (leftAs l r out)) ≡ reading.Read (keptAs l r)
+  pub written : (r : Record) (out : List ℕ) (k : ℕ) → writeAs l r (length out) ≡ writing.Written k
+      → readAs l (take k (leftAs l r out)) ≡ reading.Read (keptAs l r)
   -- "the bytes behind stay"
   pub behind : (r : Record) (out : List ℕ) (k : ℕ) → writeAs l r (length out) ≡ writing.Written k → drop k (leftAs l r out) ≡ drop k out
   -- "an accepted input, written again, is the same bytes"

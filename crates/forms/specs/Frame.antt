@@ -2,9 +2,11 @@
 use mathlib.Core.List.{[], _∷_}
 use Rattle.spelling.specs.Bytes.{digit, gap}
 use Rattle.spelling.specs.Spelling.{bits, grouped, words}
-use Rattle.forms.specs.Form.{Form, evenOnes}
+use Rattle.forms.specs.Checksum.{evenOnes, sumBy}
+use Rattle.forms.specs.Form.{Form}
 use Rattle.forms.specs.Places.{Place, Row, fixed, part}
-use Rattle.forms.specs.Slots.{Slot, daySeconds, deletion, dsp, halfHour, hour, lsp, minus, minute, offsetHours, ordinal, quality, second, sum, summer, year}
+use Rattle.forms.specs.Slots.{Slot, daySeconds, deletion, dsp, halfHour, hour, lsp, minus, minute, offsetHours, ordinal, quality, second, sum}
+use Rattle.forms.specs.Slots.{summer, year}
 
 -- "Marks stand at 0, 9, 19, .. 99."
 abbrev pub mark : Place
@@ -42,4 +44,4 @@ frameRow sign =
 
 -- form 8: "Sign 0 means an offset of zero or more"; "the ones at 1..75 are even in number"
 abbrev pub frame : Form
-frame = record { size = 100; row = frameRow minus; sum = evenOnes 1 74 }
+frame = record { size = 100; row = frameRow minus; checksums = sumBy evenOnes 1 74 ∷ [] }

@@ -1,5 +1,8 @@
 pub mod Slots
 pub mod Places
+pub mod All
+pub mod Fields
+pub mod Checksum
 pub mod Carries
 pub mod Spelled
 pub mod Told

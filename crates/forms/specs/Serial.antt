@@ -1,9 +1,12 @@
 -- The seven serial forms: their layouts, as document 01 writes them.
-use mathlib.Core.List.{List, [], _∷_}
+use mathlib.Core.List.{[], _∷_}
 use Rattle.spelling.specs.Spelling.{digits, hex, padded}
-use Rattle.forms.specs.Form.{Form, noSum, xorSum}
+use Rattle.forms.specs.Checksum.{Checksum, exclusiveOr, sumBy}
+use Rattle.forms.specs.Form.{Form}
 use Rattle.forms.specs.Places.{Row, letter, lit, one, part, two}
-use Rattle.forms.specs.Slots.{altitude, change, channel, day, fix, hour, latitudeDegrees, latitudePart, leap, leapSecond, longitudeDegrees, longitudePart, minus, minute, month, notice, offsetHours, offsetMinutes, ordinal, second, south, sum, summer, sync, tenMillionth, thousandth, weekday, west, year, zone}
+use Rattle.forms.specs.Slots.{altitude, change, channel, day, fix, hour, latitudeDegrees, latitudePart, leap, leapSecond, longitudeDegrees}
+use Rattle.forms.specs.Slots.{longitudePart, minus, minute, month, notice, offsetHours, offsetMinutes, ordinal, second, south, sum, summer, sync}
+use Rattle.forms.specs.Slots.{tenMillionth, thousandth, weekday, west, year, zone}
 
 -- 1. `<STX>D:dd.mm.yy;T:w;U:hh.mm.ss;uvxy<ETX>`
 abbrev pub standardRow : Row
@@ -14,7 +17,7 @@ standardRow =
 
 -- full date, sync, fix, utc, summer, change, leap
 abbrev pub standard : Form
-standard = record { size = 32; row = standardRow; sum = noSum }
+standard = record { size = 32; row = standardRow; checksums = [] }
 
 -- 2. `CHx dd.mm.yy hh:mm:ss.fffffff<CR><LF>`
 abbrev pub captureRow : Row
@@ -24,7 +27,7 @@ captureRow =
 
 -- full date, ten-millionths, channel
 abbrev pub capture : Form
-capture = record { size = 31; row = captureRow; sum = noSum }
+capture = record { size = 31; row = captureRow; checksums = [] }
 
 -- 3. `<STX>dd.mm.yy; w; hh:mm:ss; voo:oo; acdfg i;bbb.bbbbn lll.lllle hhhhm<ETX>`
 abbrev pub erlangenRow : Row
@@ -40,7 +43,7 @@ erlangenRow =
 
 -- full date, offset, sync, fix, summer, change, leap, position
 abbrev pub erlangen : Form
-erlangen = record { size = 66; row = erlangenRow; sum = noSum }
+erlangen = record { size = 66; row = erlangenRow; checksums = [] }
 
 -- 4. `>900WD:yy-mm-dd hh.mm;ss.fff:cc<CR>`, "cc is the exclusive-or of all 29 bytes before it"
 abbrev pub spaRow : Row
@@ -49,9 +52,12 @@ spaRow =
     ∷ two hour ∷ lit "." ∷ two minute ∷ lit ";" ∷ two second ∷ lit "." ∷ part (digits 3) thousandth ∷ lit ":"
     ∷ part (hex 2) sum ∷ lit "\r" ∷ []
 
+abbrev pub spaSum : Checksum
+spaSum = sumBy exclusiveOr 0 29
+
 -- full date, thousandths
 abbrev pub spa : Form
-spa = record { size = 32; row = spaRow; sum = xorSum 0 29 }
+spa = record { size = 32; row = spaRow; checksums = spaSum ∷ [] }
 
 -- 5. `XGUyymmddhhmmss<CR>`
 abbrev pub racalRow : Row
@@ -59,7 +65,7 @@ racalRow = lit "XGU" ∷ two year ∷ two month ∷ two day ∷ two hour ∷ two
 
 -- full date
 abbrev pub racal : Form
-racal = record { size = 16; row = racalRow; sum = noSum }
+racal = record { size = 16; row = racalRow; checksums = [] }
 
 -- 6. `<SOH>ddd:hh:mm:ssq<CR><LF>`
 abbrev pub sysplexRow : Row
@@ -69,7 +75,7 @@ sysplexRow =
 
 -- day of year, sync
 abbrev pub sysplex : Form
-sysplex = record { size = 16; row = sysplexRow; sum = noSum }
+sysplex = record { size = 16; row = sysplexRow; checksums = [] }
 
 -- 7. `T:yy:mm:dd:ww:hh:mm:ss<CR><LF>`
 abbrev pub computimeRow : Row
@@ -79,8 +85,4 @@ computimeRow =
 
 -- full date
 abbrev pub computime : Form
-computime = record { size = 24; row = computimeRow; sum = noSum }
-
--- the forms 1 to 7 in order
-abbrev pub serial : List Form
-serial = standard ∷ capture ∷ erlangen ∷ spa ∷ racal ∷ sysplex ∷ computime ∷ []
+computime = record { size = 24; row = computimeRow; checksums = [] }

@@ -1,96 +1,19 @@
 -- What each slot tells of a record.
-use Prim.Native.Nat.{ℕ, _+_, _*_, _/_, _%_}
+use Prim.Native.Nat.{_+_, _*_, _/_, _%_}
 use lib.Dec.{eqb}
-use lib.IntN.{natAbs}
 use Rattle.choice.specs.Pick.{oneIf, pick}
-use Rattle.calendar.specs.Calendar.{dayOfYear, weekdayOf}
-use Rattle.record.specs.declared.Channel.{Channel}
-use Rattle.record.specs.declared.Channel.the-variants as channelIs
-use Rattle.record.specs.declared.Date.{Date}
-use Rattle.record.specs.declared.Date.the-variants as dateIs
-use Rattle.record.specs.declared.Fraction.{Fraction}
-use Rattle.record.specs.declared.Fraction.the-variants as fractionIs
-use Rattle.record.specs.declared.Offset.{Offset}
-use Rattle.record.specs.declared.Offset.the-variants as offsetIs
-use Rattle.record.specs.declared.Position.{Position}
-use Rattle.record.specs.declared.Position.the-variants as positionIs
-use Rattle.record.specs.declared.Record.{Record}
+use Rattle.calendar.specs.Calendar.{weekdayOf}
 use Rattle.record.specs.Record.{isYes}
-use Rattle.record.specs.Sign.{isNegative}
-use Rattle.forms.specs.Slots.{Values, altitude, change, channel, day, daySeconds, deletion, dsp, fix, halfHour, hour, latitudeDegrees, latitudePart, leap, leapSecond, longitudeDegrees, longitudePart, lsp, minus, minute, month, notice, offsetHours, offsetMinutes, ordinal, quality, second, south, sum, summer, sync, tenMillionth, thousandth, utc, weekday, west, year, zone}
-
--- what a field tells, 0 where it is absent or of another kind
-
-abbrev pub yearTold : Date → ℕ
-yearTold dateIs.Absent = 0
-yearTold (dateIs.Full y m d) = y
-yearTold (dateIs.DayOfYear n) = 0
-
-abbrev pub monthTold : Date → ℕ
-monthTold dateIs.Absent = 0
-monthTold (dateIs.Full y m d) = m
-monthTold (dateIs.DayOfYear n) = 0
-
-abbrev pub dayTold : Date → ℕ
-dayTold dateIs.Absent = 0
-dayTold (dateIs.Full y m d) = d
-dayTold (dateIs.DayOfYear n) = 0
-
--- "The writer of form 6 derives ddd from a full date."
-abbrev pub ordinalTold : Date → ℕ
-ordinalTold dateIs.Absent = 0
-ordinalTold (dateIs.Full y m d) = dayOfYear y m d
-ordinalTold (dateIs.DayOfYear n) = n
-
-abbrev pub thousandthsTold : Fraction → ℕ
-thousandthsTold fractionIs.Absent = 0
-thousandthsTold (fractionIs.Thousandths n) = n
-thousandthsTold (fractionIs.TenMillionths n) = 0
-
-abbrev pub tenMillionthsTold : Fraction → ℕ
-tenMillionthsTold fractionIs.Absent = 0
-tenMillionthsTold (fractionIs.Thousandths n) = 0
-tenMillionthsTold (fractionIs.TenMillionths n) = n
-
-abbrev pub channelTold : Channel → ℕ
-channelTold channelIs.Absent = 0
-channelTold (channelIs.Number n) = n
-
-abbrev pub minusTold : Offset → ℕ
-minusTold offsetIs.Absent = 0
-minusTold (offsetIs.Minutes z) = oneIf (isNegative z)
-
-abbrev pub minutesTold : Offset → ℕ
-minutesTold offsetIs.Absent = 0
-minutesTold (offsetIs.Minutes z) = natAbs z
-
--- no half hour, one, or minutes that are neither
-unfoldable pub halfHourOf : ℕ → ℕ
-halfHourOf n = pick (eqb n 0) 0 (pick (eqb n 30) 1 2)
-
-abbrev pub southTold : Position → ℕ
-southTold positionIs.Absent = 0
-southTold (positionIs.Degrees lat lon alt) = oneIf (isNegative lat)
-
-abbrev pub latitudeTold : Position → ℕ
-latitudeTold positionIs.Absent = 0
-latitudeTold (positionIs.Degrees lat lon alt) = natAbs lat
-
-abbrev pub westTold : Position → ℕ
-westTold positionIs.Absent = 0
-westTold (positionIs.Degrees lat lon alt) = oneIf (isNegative lon)
-
-abbrev pub longitudeTold : Position → ℕ
-longitudeTold positionIs.Absent = 0
-longitudeTold (positionIs.Degrees lat lon alt) = natAbs lon
-
-abbrev pub altitudeTold : Position → ℕ
-altitudeTold positionIs.Absent = 0
-altitudeTold (positionIs.Degrees lat lon alt) = alt
-
--- "the seconds of the day, hour x 3,600 + minute x 60 + second"
-abbrev pub secondsOfDay : ℕ → ℕ → ℕ → ℕ
-secondsOfDay h m s = h * 3600 + m * 60 + s
+use Rattle.record.specs.declared.Record.{Record}
+use Rattle.forms.specs.Fields.Channel.{channelTold}
+use Rattle.forms.specs.Fields.Date.{dayTold, monthTold, ordinalTold, yearTold}
+use Rattle.forms.specs.Fields.Fraction.{tenMillionthsTold, thousandthsTold}
+use Rattle.forms.specs.Fields.Offset.{halfHourOf, minusTold, minutesTold}
+use Rattle.forms.specs.Fields.Position.{altitudeTold, latitudeTold, longitudeTold, southTold, westTold}
+use Rattle.forms.specs.Fields.Time.{secondsOfDay}
+use Rattle.forms.specs.Slots.{Values, altitude, change, channel, day, daySeconds, deletion, dsp, fix, halfHour, hour, latitudeDegrees, latitudePart}
+use Rattle.forms.specs.Slots.{leap, leapSecond, longitudeDegrees, longitudePart, lsp, minus, minute, month, notice, offsetHours, offsetMinutes}
+use Rattle.forms.specs.Slots.{ordinal, quality, second, south, sum, summer, sync, tenMillionth, thousandth, utc, weekday, west, year, zone}
 
 -- the values of a record; "weekday and the leap letter are not fields: they follow from the date and from second 60"
 abbrev pub told : Record → Values

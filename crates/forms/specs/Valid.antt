@@ -23,7 +23,7 @@ validOf n s = recordIn (readAs (layoutOf serialForms n) s)
 -- the length of a layout, 0 where it has not one alone
 abbrev pub lengthAs : Layout → ℕ
 lengthAs (sized d) = d .size
-lengthAs block = 0
+lengthAs (block e) = 0
 lengthAs unknown = 0
 
 -- the length of a serial form, 0 for any other number
@@ -44,12 +44,12 @@ endByte (p ∷ q ∷ ps) = endByte (q ∷ ps)
 -- the byte that every valid string of a form starts with, and the one that it ends with
 abbrev pub startAs : Layout → ℕ
 startAs (sized d) = startByte (d .row)
-startAs block = 0
+startAs (block e) = 0
 startAs unknown = 0
 
 abbrev pub endAs : Layout → ℕ
 endAs (sized d) = endByte (d .row)
-endAs block = 0
+endAs (block e) = 0
 endAs unknown = 0
 
 unfoldable pub startOf : ℕ → ℕ

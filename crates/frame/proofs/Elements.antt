@@ -10,7 +10,8 @@ use lib.ListN.{length, getD, set, take, drop, length-append}
 use lib.Seq.{sets, take-length}
 use Rattle.choice.specs.Pick.{oneIf}
 use Rattle.spelling.specs.Bytes.{bitsOf, groupsOf, ones}
-use Rattle.forms.specs.Form.{bytesBy, withSum}
+use Rattle.forms.specs.Checksum.{withSum}
+use Rattle.forms.specs.Form.{bytesBy}
 use Rattle.forms.specs.Frame.{frame, frameRow}
 use Rattle.forms.specs.Places.{bytesOf}
 use Rattle.forms.specs.Slots.{Values, deletion, halfHour, minus}

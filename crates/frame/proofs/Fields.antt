@@ -1,36 +1,33 @@
 -- What a frame's writer asks of a record, and the numbers that its fields tell.
 use mathlib.Core.Path.{_≡_, refl, sym, _∙_, ap}
-use mathlib.Core.Bool.{Bool, true, false, _&&_, and-true}
+use mathlib.Core.Bool.{Bool, true, _&&_, and-true}
 use mathlib.Core.List.{List, _++_}
-use Prim.Native.Nat.{ℕ, _+_, _%_, _≤_, _<_}
+use Prim.Native.Nat.{ℕ, _+_, _%_, _≤_}
 use native.Mathlib.Omega.{arith}
-use borrow.Author.Tests.{eq-eqb, le-ltb, lt-ltb, ne-eqb}
+use borrow.Author.Tests.{eq-eqb, ne-eqb}
 use lib.Dec.{ltb}
 use lib.ListN.{length, drop}
 use lib.Seq.{sets, sets-eq}
 use Rattle.choice.specs.Pick.{oneIf}
-use Rattle.spelling.specs.Bytes.{allAre, groupsLimit, groupsWidth, isWord, sameBytes}
-use Rattle.spelling.proofs.Groups.{fullGroups, noDigit}
-use Rattle.spelling.proofs.Words.{allDifferent, allLong}
 use Rattle.record.specs.declared.Date.{Date}
 use Rattle.record.specs.declared.Date.the-variants as dateIs
 use Rattle.record.specs.declared.Offset.{Offset}
 use Rattle.record.specs.declared.Offset.the-variants as offsetIs
 use Rattle.record.specs.declared.Record.{Record}
-use Rattle.forms.specs.Carries.{carriesOf, fullDate, yearAndDay}
-use Rattle.record.specs.Record.{isGood}
-use Rattle.forms.specs.Form.{bytesBy, carries}
+use Rattle.forms.specs.Carries.{carriesOf}
+use Rattle.forms.specs.Fields.Date.{fullDate, hasDate, yearAndDay}
+use Rattle.forms.specs.Fields.Flag.{hasFlag}
+use Rattle.forms.specs.Fields.Offset.{halfHourOf, hasOffset, minusTold}
+use Rattle.forms.specs.Form.{bytesBy, carries, isExpressible}
+use Rattle.forms.specs.Forms.{layoutOf}
 use Rattle.forms.specs.Frame.{frame}
-use Rattle.forms.specs.Needs.{hasAll, hasDate, hasFlag, hasOffset}
-use Rattle.forms.specs.Places.{allWorded, has, rowWidth}
+use Rattle.forms.specs.Needs.{hasAll}
+use Rattle.forms.specs.Places.{allWorded, has}
 use Rattle.forms.specs.Slots.{halfHour, minus}
-use Rattle.forms.specs.Told.{halfHourOf, minusTold, told}
-use Rattle.forms.proofs.Allowed.{allGroups, allWords, allowsRow, upTo}
-use Rattle.forms.proofs.Complete.{isComplete}
-use Rattle.forms.proofs.Rows.{apartRow, limitOf, soundRow}
-use Rattle.forms.proofs.Slots.{every}
-use Rattle.forms.proofs.Sound.{isSoundForm, sound-form, wideRow}
-use Rattle.forms.proofs.Sums.{unsummed}
+use Rattle.forms.specs.Told.{told}
+use Rattle.record.specs.Record.{isGood}
+use Rattle.forms.proofs.Instances.{form-sound}
+use Rattle.forms.proofs.Sound.{isSoundForm, sound-form}
 use Rattle.forms.proofs.WriteRead.{write-length}
 use Rattle.fields.specs.Signs.{isMinus}
 use Rattle.frame.specs.Rows.{withMinus}
@@ -49,16 +46,9 @@ needs-of r =
     ap (λ (t : Bool). t && (hasFlag true (r .sync) && (hasFlag true (r .summer) && (hasOffset true (r .offset) && (hasFlag true (r .dsp) && hasFlag true (r .lsp)))))) (full-date (r .date))
 
 -- the half hour alone is a word
-worded-of : (r : Record) → allWorded (frame .row) (told r) ≡ ltb (told r halfHour) 2
-unfolding allWorded
+pub worded-of : (r : Record) → isExpressible (frame .row) (told r) ≡ ltb (told r halfHour) 2
+unfolding allWorded has isExpressible
 worded-of r = and-true (ltb (told r halfHour) 2)
-
-module _ (r : Record) (n : ℕ) (e : n ≡ told r halfHour) where
-  pub expressible : n < 2 → allWorded (frame .row) (told r) ≡ true
-  expressible h = worded-of r ∙ ap (λ (x : ℕ). ltb x 2) (sym e) ∙ lt-ltb n 2 h
-
-  pub inexpressible : 2 ≤ n → allWorded (frame .row) (told r) ≡ false
-  inexpressible h = worded-of r ∙ ap (λ (x : ℕ). ltb x 2) (sym e) ∙ le-ltb n 2 h
 
 pub minus-told : (o : Offset) → oneIf (isMinus o) ≡ minusTold o
 minus-told offsetIs.Absent = refl
@@ -81,11 +71,11 @@ module _ (m n : ℕ) (e : m ≡ n) where
         sym (simp (ne-eqb (n % 60) 0 (λ q. h (ap (λ (x : ℕ). x % 60) e ∙ q)), ne-eqb (n % 60) 30 (λ q. g (ap (λ (x : ℕ). x % 60) e ∙ q))))
 
 pub sound : isSoundForm frame ≡ true
-unfolding isSoundForm rowWidth soundRow allLong allDifferent isWord sameBytes apartRow has wideRow isComplete every limitOf unsummed allAre upTo allWords allowsRow allGroups groupsLimit groupsWidth fullGroups noDigit
-sound = refl
+unfolding layoutOf
+sound = form-sound 8 frame refl
 
 -- a frame stored at the head of a buffer, with its own sign
-pub stored-form : (r : Record) (o y : List ℕ) (n : ℕ) → isGood r ≡ true → allWorded (frame .row) (told r) ≡ true → 100 ≤ length o → n ≡ told r minus
+pub stored-form : (r : Record) (o y : List ℕ) (n : ℕ) → isGood r ≡ true → isExpressible (frame .row) (told r) ≡ true → 100 ≤ length o → n ≡ told r minus
     → y ≡ sets o 0 (bytesBy frame (withMinus (told r) n)) → y ≡ bytesBy frame (told r) ++ drop 100 o
 stored-form r o y n g w l e p =
     let x : List ℕ = bytesBy frame (told r) in

@@ -20,13 +20,21 @@ use Rattle.record.specs.declared.Record.{Record}
 use Rattle.record.specs.declared.answer.Reading.the-variants as reading
 use Rattle.record.specs.declared.refusal.Refusal.the-variants as refusal
 use Rattle.record.specs.Record.{inRange, zoneAgrees}
-use Rattle.forms.specs.Carries.{byQuality, carriesOf, inHalfHours, yearAndDay}
-use Rattle.forms.specs.Form.{carries, judged, leapTied, numbersInRange, ranges, secondsTied, signTied, signsTied, sumHolds, ties, valuesBy, weekdayInRange, weekdayTied}
+use Rattle.forms.specs.Carries.{carriesOf}
+use Rattle.forms.specs.Checksum.{checksumsHold}
+use Rattle.forms.specs.Fields.Channel.{channelFrom}
+use Rattle.forms.specs.Fields.Date.{dateFrom, dateOn, weekdayInRange, weekdayTied, yearAndDay}
+use Rattle.forms.specs.Fields.Flag.{byQuality, flagFrom, yesNo}
+use Rattle.forms.specs.Fields.Fraction.{fractionFrom}
+use Rattle.forms.specs.Fields.Offset.{inHalfHours, minutesFrom, offsetFrom}
+use Rattle.forms.specs.Fields.Position.{positionFrom}
+use Rattle.forms.specs.Fields.Sign.{negative, signTied}
+use Rattle.forms.specs.Fields.Time.{leapTied, secondsOfDay, secondsTied}
+use Rattle.forms.specs.Form.{carries, judged, numbersInRange, ranges, signsTied, ties, valuesBy}
 use Rattle.forms.specs.Frame.{frame}
 use Rattle.forms.specs.Places.{has, values}
-use Rattle.forms.specs.Slots.{daySeconds, dsp, halfHour, hour, lsp, minus, minute, offsetHours, ordinal, quality, second, sum, summer, year}
-use Rattle.forms.specs.Spelled.{channelFrom, dateFrom, dateOn, flagFrom, fractionFrom, minutesFrom, negative, offsetFrom, positionFrom, recordFrom, yesNo}
-use Rattle.forms.specs.Told.{secondsOfDay}
+use Rattle.forms.specs.Slots.{daySeconds, dsp, halfHour, hour, lsp, minus, minute, offsetHours, ordinal, quality, second, summer, year}
+use Rattle.forms.specs.Spelled.{recordFrom}
 use Rattle.layout.specs.Places.{flagOf}
 use Rattle.frame.specs.Rows.{bcdAt, days, pair, withMinus}
 use Rattle.frame.proofs.Digits.{days-below, days-number, pair-below, pair-number}
@@ -160,8 +168,8 @@ module _ (s : List ℕ) where
 
   -- the tests
 
-  pub parity-of : sumHolds (frame .sum) s (valuesBy frame s sum) ≡ eqb (bitsNumber (take 1 (drop 75 s))) (ones (take 74 (drop 1 s)) % 2)
-  unfolding sumHolds values groupsWidth
+  pub parity-of : checksumsHold (frame .checksums) s (valuesBy frame s) ≡ eqb (bitsNumber (take 1 (drop 75 s))) (ones (take 74 (drop 1 s)) % 2)
+  unfolding checksumsHold values groupsWidth
   parity-of = refl
 
   pub numbers-of : numbersInRange (valuesBy frame s)

@@ -4,12 +4,13 @@ ghost use mathlib.Core.Bool.{true, _&&_};
 ghost use lib.Dec.{eqb};
 ghost use lib.ListN.{length};
 ghost use Rattle.record.specs.Record.{inRange};
-ghost use Rattle.forms.specs.Carries.{inHalfHours};
-ghost use Rattle.forms.specs.Form.{carries, judged, numbersInRange, signTied, sumHolds, valuesBy};
+ghost use Rattle.forms.specs.Checksum.{checksumsHold};
+ghost use Rattle.forms.specs.Fields.Offset.{inHalfHours, minutesFrom};
+ghost use Rattle.forms.specs.Fields.Sign.{signTied};
+ghost use Rattle.forms.specs.Fields.Time.{secondsOfDay};
+ghost use Rattle.forms.specs.Form.{carries, judged, numbersInRange, valuesBy};
 ghost use Rattle.forms.specs.Frame.{frame};
-ghost use Rattle.forms.specs.Slots.{daySeconds, sum};
-ghost use Rattle.forms.specs.Spelled.{minutesFrom};
-ghost use Rattle.forms.specs.Told.{secondsOfDay};
+ghost use Rattle.forms.specs.Slots.{daySeconds};
 ghost use Rattle.frame.specs.Rows.{withMinus};
 use crate::groups::day_seconds;
 use crate::groups::number_at;
@@ -22,7 +23,7 @@ use record::refusal::Refusal;
 // The ones at 1 to 75 are even in number.
 pub fn parity_holds(s: &[u8]) -> bool
     requires { ⌜ length (now s) ≡ 100 ⌝ }
-    ensures { λ r. ⌜ r ≡ sumHolds (frame .sum) (now (s .entry)) (valuesBy frame (now (s .entry)) sum) ⌝ }
+    ensures { λ r. ⌜ r ≡ checksumsHold (frame .checksums) (now (s .entry)) (valuesBy frame (now (s .entry))) ⌝ }
 {
     let odd = spelling::count_ones(&s[1..75]) % 2;
     number_at(s, 75, 1) == odd as u32

@@ -7,7 +7,7 @@ ghost use Rattle.scan.specs.Printed.{recordsIn};
 use libc::STDIN_FILENO;
 use libc::STDOUT_FILENO;
 use record::answer::Writing;
-use scan::Telling;
+use scan::Report;
 
 // What one read brought.
 struct Brought {
@@ -43,12 +43,12 @@ fn print(form: u32, piece: &[u8], carried: usize, out: &mut [u8]) -> Printed
     requires { ⌜ (carried < lengthOf form) × ((carried ≤ length (now piece)) × (length (now piece) ≤ length (now out) / 11)) ⌝ }
     ensures { λ p. ⌜ (p .telegrams ≡ length (recordsIn form (now (piece .entry)))) × (carried + p .telegrams ≤ length (now (piece .entry))) ⌝ }
 {
-    match scan::tell(form, piece, out) {
-        Telling::Told { telegrams, bytes } => Printed {
+    match scan::write_records(form, piece, out) {
+        Report::Written { telegrams, bytes } => Printed {
             telegrams,
             written: io::write_all(STDOUT_FILENO, &out[..bytes]),
         },
-        Telling::Refused(_) => Printed {
+        Report::Refused(_) => Printed {
             telegrams: 0,
             written: false,
         },
@@ -66,7 +66,7 @@ fn turn(form: u32, carried: usize, buffer: &mut [u8], out: &mut [u8]) -> Brought
     Brought {
         got,
         telegrams: p.telegrams,
-        carried: scan::carry(form, buffer, end),
+        carried: scan::carry_over(form, buffer, end),
         written: p.written,
     }
 }

@@ -2,3 +2,9 @@ pub mod Part
 pub mod Letters
 pub mod Stored
 pub mod Weekday
+pub mod Tests
+pub mod Wrote
+pub mod Validated
+pub mod Chain
+pub mod Shared
+pub mod Signed

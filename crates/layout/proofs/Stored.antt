@@ -10,8 +10,8 @@ use lib.Seq.{drop-append-add, drop-drop, length-sets, length-take-le, sets, sets
 use Rattle.choice.proofs.Tests.{both}
 use Rattle.record.specs.declared.Record.{Record}
 use Rattle.record.specs.Record.{isGood}
-use Rattle.forms.specs.Form.{Form, bytesBy}
-use Rattle.forms.specs.Places.{Row, allWorded, bytesOf, placed, rowWidth, width}
+use Rattle.forms.specs.Form.{Form, bytesBy, isExpressible}
+use Rattle.forms.specs.Places.{Row, bytesOf, placed, rowWidth, width}
 use Rattle.forms.specs.Slots.{Values}
 use Rattle.forms.specs.Told.{told}
 use Rattle.forms.proofs.Rows.{placed-length, roomy, roomyRow, soundPlace, soundRow}
@@ -66,7 +66,7 @@ stores-append (p ∷ ps) qs k v o =
     ∙ ap (λ (j : ℕ). stores qs j v (stores ps (width p + k) v (sets o k (placed p v)))) e
 
 -- a form stored from the head of a buffer
-pub stores-form : (d : Form) → isSoundForm d ≡ true → (r : Record) → isGood r ≡ true → allWorded (d .row) (told r) ≡ true → (o : List ℕ) → d .size ≤ length o
+pub stores-form : (d : Form) → isSoundForm d ≡ true → (r : Record) → isGood r ≡ true → isExpressible (d .row) (told r) ≡ true → (o : List ℕ) → d .size ≤ length o
     → stores (d .row) 0 (written d r) o ≡ bytesBy d (told r) ++ drop (d .size) o
 unfolding bytesBy
 stores-form d t r g w o h =

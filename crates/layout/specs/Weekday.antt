@@ -4,7 +4,7 @@ use Prim.Native.Nat.{ℕ}
 use lib.Dec.{eqb}
 use Rattle.calendar.specs.Calendar.{isDate, weekdayOf}
 use Rattle.record.specs.declared.Date.{Date}
-use Rattle.forms.specs.Told.{dayTold, monthTold, yearTold}
+use Rattle.forms.specs.Fields.Date.{dayTold, monthTold, yearTold}
 
 -- the full date exists
 abbrev pub exists : Date → Bool

@@ -6,7 +6,7 @@ ghost use lib.Dec.{eqb};
 ghost use lib.ListN.{length, getD, take, drop};
 ghost use Rattle.spelling.specs.Bytes.{areDigits, arePadded, isWord, letters, sameBytes};
 ghost use Rattle.spelling.specs.Bytes.{number as Bytes·number};
-ghost use Rattle.layout.specs.Places.{flagOf, pairsAt};
+ghost use Rattle.layout.specs.Places.{flagOf, pairsAt, yesIf};
 use record::Flag;
 
 // The text stands at a place.
@@ -71,10 +71,26 @@ pub fn letter_at(s: &[u8], at: usize, first: u8, second: u8) -> bool
     (s[at] == first) | (s[at] == second)
 }
 
+// One of three letters stands at a place.
+pub fn letter_of_three_at(s: &[u8], at: usize, first: u8, second: u8, third: u8) -> bool
+    requires { ⌜ at < length (now s) ⌝ }
+    ensures { λ r. ⌜ r ≡ isWord (letters (first ∷ second ∷ third ∷ [])) (take 1 (drop at (now (s .entry)))) ⌝ }
+{
+    (s[at] == first) | ((s[at] == second) | (s[at] == third))
+}
+
 // A yes or no field by its letter for no.
 pub fn flag_at(s: &[u8], at: usize, no: u8) -> Flag
     requires { ⌜ at < length (now s) ⌝ }
     ensures { λ r. ⌜ r ≡ flagOf (eqb (getD (now (s .entry)) at 0) no) ⌝ }
 {
     if s[at] == no { Flag::No } else { Flag::Yes }
+}
+
+// A yes or no field by its letter for yes, where a letter tells more than one field.
+pub fn yes_at(s: &[u8], at: usize, yes: u8) -> Flag
+    requires { ⌜ at < length (now s) ⌝ }
+    ensures { λ r. ⌜ r ≡ yesIf (eqb (getD (now (s .entry)) at 0) yes) ⌝ }
+{
+    if s[at] == yes { Flag::Yes } else { Flag::No }
 }

@@ -3,7 +3,7 @@ ghost use mathlib.Core.Path.{_≡_};
 ghost use mathlib.Core.Bool.{true, _&&_};
 ghost use lib.Dec.{eqb};
 ghost use Rattle.calendar.specs.Calendar.{isDate, weekdayOf};
-ghost use Rattle.forms.specs.Form.{weekdayInRange};
+ghost use Rattle.forms.specs.Fields.Date.{weekdayInRange};
 ghost use Rattle.layout.specs.Weekday.{exists, fallsOn, weekdayTold};
 use calendar::Day;
 use record::Date;

@@ -1,9 +1,6 @@
+pub mod Room
 pub mod Heads
 pub mod Runs
-pub mod Shown
-pub mod Searched
 pub mod Small
-pub mod Answers
-pub mod Said
 pub mod Written
 pub mod Chained

@@ -1,9 +1,8 @@
-pub mod States
+pub mod State
 pub mod Buffers
 pub mod Run
-pub mod Listens
-pub mod Finds
-pub mod Meanings
+pub mod Listener
+pub mod Search
 pub mod Telegrams
 pub mod Chained
-pub mod Marks
+pub mod Index

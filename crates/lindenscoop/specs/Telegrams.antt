@@ -13,7 +13,7 @@ use Rattle.record.specs.declared.answer.Writing.the-variants as writing
 use Rattle.record.specs.declared.refusal.Refusal.the-variants as refusal
 use Rattle.record.specs.Answers.{readNumber, readRecord, writeNumber, writtenLength}
 use Rattle.forms.specs.Forms.{leftForm, readForm, writeForm}
-use Rattle.numbers.specs.Given.{recordOf}
+use Rattle.flat_record.specs.Decode.{recordOf}
 use Rattle.lindenscoop.specs.Buffers.{recordFits, shown, tooShort}
 
 pub record ReadAs (form : ℕ) (input r : List ℕ) (n : ℕ) (r′ : List ℕ) : Type 0 where

@@ -1,9 +1,9 @@
-// The functions that C programs call; include/lindenscoop.h declares them. Only numbers and slices cross: a record as 29 numbers
-// (crates/numbers), a listener as 70 bytes. A buffer that is too short for either is refused with 10 before all else.
-mod finds;
-mod listens;
-mod marks;
-mod meanings;
+// The functions that C programs call; bindings/c/include/lindenscoop.h declares them. Only numbers and slices cross: a record as a row of
+// numbers (crates/flat_record), a listener as bytes (state.rt). A buffer that is too short for either is refused with 10 before all else.
+mod buffers;
+mod index;
+mod listener_raw;
 mod run;
-mod states;
+mod search_raw;
+mod state;
 mod telegrams;

@@ -1,6 +1,8 @@
 // Reading and writing strings for C programs.
 ghost use mathlib.Core.Path.{_≡_};
 ghost use Rattle.lindenscoop.specs.Telegrams.{ReadAs, WrittenAs, WroteNumbers, isForm};
+use crate::buffers::TOO_SHORT;
+use crate::buffers::record_fits;
 use record::answer::Reading;
 use record::answer::Writing;
 use record::refusal::Refusal;
@@ -15,7 +17,7 @@ fn is_form(form: u32) -> bool
 fn write_numbers(form: u32, row: &[u32], out: &mut [u8]) -> Writing
     ensures { λ w. ⌜ WroteNumbers form (now (row .entry)) w (now (out .entry)) (now (out .exit)) ⌝ }
 {
-    let reading = numbers::record_of(row);
+    let reading = flat_record::record_of(row);
     match reading {
         Reading::Read(r) => telegram::write(form, r, out),
         Reading::Refused(x) => {
@@ -30,20 +32,20 @@ fn write_numbers(form: u32, row: &[u32], out: &mut [u8]) -> Writing
 
 // The record of a string.
 #[no_mangle]
-pub extern "C" fn lindenscoop_read(form: u32, input: &[u8], row: &mut [u32]) -> u32
+pub extern "C" fn lindenscoop_read_raw(form: u32, input: &[u8], row: &mut [u32]) -> u32
     ensures { λ n. ⌜ ReadAs form (now (input .entry)) (now (row .entry)) n (now (row .exit)) ⌝ }
 {
-    if row.len() < 29 {
-        return 10;
+    if !record_fits(row) {
+        return TOO_SHORT;
     }
     let reading = telegram::read(form, input);
-    numbers::put_record(reading.record(), row);
+    flat_record::put_record(reading.record(), row);
     reading.number()
 }
 
 // The string of a record.
 #[no_mangle]
-pub extern "C" fn lindenscoop_write(
+pub extern "C" fn lindenscoop_write_raw(
     form: u32,
     row: &[u32],
     out: &mut [u8],

@@ -1,16 +1,14 @@
 -- The listener over the ring answers byte by byte as the step over the kept bytes does, of which demand 3 holds over any form.
-use mathlib.Core.Bool.{Bool, true, false}
+use mathlib.Core.Bool.{true}
 use mathlib.Core.List.{List, [], _∷_}
 use mathlib.Core.Path.{_≡_, refl, sym, _∙_, ap}
 use Prim.Native.Nat.{ℕ, zero, suc, _+_, _-_, _≤_, _<_}
 use native.Mathlib.Omega.{arith}
-use borrow.Author.Tests.{eq-eqb, eqb-false, eqb-true, ne-eqb}
-use lib.Dec.{eqb}
 use lib.ListN.{length, getD, length-set}
-use Rattle.forms.specs.Forms.{layoutOf}
-use Rattle.forms.specs.Valid.{lengthAs, lengthOf, validOf}
-use Rattle.serial.proofs.Numbers.{no-form}
-use Rattle.serial.proofs.Strings.{length-most, serial-strings}
+use Rattle.forms.specs.Forms.{isSerial, layoutOf}
+use Rattle.forms.specs.Valid.{lengthOf, validOf}
+use Rattle.serial.proofs.Lengths.{length-most, serial-long}
+use Rattle.serial.proofs.Strings.{serial-strings}
 use Rattle.stream.specs.Answer.{nothing, refused}
 use Rattle.stream.specs.Distance.{State, fresh, stepAnswer, stepNext}
 use Rattle.stream.specs.Heard.{heardAll}
@@ -19,21 +17,26 @@ use Rattle.stream.specs.Window.{lastOf}
 use Rattle.stream.proofs.Distance.{fits-next, step-hears}
 use Rattle.stream.proofs.Listens.{listens-by}
 use Rattle.stream.proofs.Machine.{same-answers}
+use Rattle.serial.specs.Shape.{longest}
 use Rattle.listener.specs.Demand3.{Demand3}
-use Rattle.listener.specs.Listening.{answerBy, answerTo, hears, isBad, movedBy, nextBy, nextOf, silent, startNumber, startedOf, stateOf}
+use Rattle.listener.specs.Listening.{answerBy, answerTo, hears, isBad, movedBy, nextBy, nextOf, silent, startedOf, stateOf}
 use Rattle.listener.specs.Ring.{oldestFirst, placeOf}
 use Rattle.listener.specs.declared.Listener.{Listener}
 use Rattle.listener.proofs.Rings.{place-small, place-wrapped}
+use Rattle.listener.proofs.Starts.{fresh-is, refused-form, start-known, start-unknown}
 use Rattle.listener.proofs.Steps.{answer-is, kept-ring, next-is}
 
-module _ (f : ℕ) (some-byte : 0 < lengthOf f) where
+module _ (f : ℕ) (serial : isSerial f ≡ true) where
   abbrev n : ℕ
   n = lengthOf f
+
+  some-byte : 0 < n
+  some-byte = serial-long f serial
 
   -- a state of the ring that refusal 11 does not name
   record Sound (l : Listener) : Type 0 where
     form-is : l .form ≡ f
-    sized : length (l .bytes) ≡ 66
+    sized : length (l .bytes) ≡ longest
     small : l .kept < n
     near : l .distance ≤ n
 
@@ -59,7 +62,7 @@ module _ (f : ℕ) (some-byte : 0 < lengthOf f) where
         record {
           form-is = c .form-is;
           sized = length-set (l .bytes) (placeOf (l .at)) b ∙ c .sized;
-          small = omega arith;
+          small = omega (arith, some-byte);
           near = rw answer-step (fits-next (n - 1) n (validOf f) (stateOf l) b .distance-fits);
         }
 
@@ -78,90 +81,32 @@ module _ (f : ℕ) (some-byte : 0 < lengthOf f) where
   unfolding stateOf lastOf oldestFirst
   fresh-alike = (record { form-is = refl; sized = refl; small = some-byte; near = omega arith }, refl)
 
-  fresh-is : startedOf f .listener ≡ silent f n
-  unfolding startedOf
-  fresh-is = rw (ne-eqb n 0 (omega arith))
-
   pub hears-all : (s : List ℕ) → hears f s ≡ heardAll n (validOf f) s
   unfolding hears
   hears-all s =
-      rw fresh-is
-      (same-answers nextOf answerTo (stepNext (n - 1) n (validOf f)) (stepAnswer n (validOf f)) Alike next-alike answers-alike (silent f n) (fresh n) s fresh-alike
-      ∙ step-hears (n - 1) n (validOf f) (serial-strings f some-byte) (omega arith) s)
-
--- the numbers of the forms
-
-known : (f : ℕ) → 1 ≤ f → f ≤ 7 → 0 < lengthOf f
-unfolding lengthOf layoutOf
-known zero h l = absurd (omega arith)
-known (suc zero) h l = omega arith
-known (suc (suc zero)) h l = omega arith
-known (suc (suc (suc zero))) h l = omega arith
-known (suc (suc (suc (suc zero)))) h l = omega arith
-known (suc (suc (suc (suc (suc zero))))) h l = omega arith
-known (suc (suc (suc (suc (suc (suc zero)))))) h l = omega arith
-known (suc (suc (suc (suc (suc (suc (suc zero))))))) h l = omega arith
-known (suc (suc (suc (suc (suc (suc (suc (suc f)))))))) h l = absurd (omega arith)
-
-unknown : (f : ℕ) → (1 ≤ f → f ≤ 7 → ⊥) → lengthOf f ≡ 0
-unfolding lengthOf
-unknown f h =
-    let other : (k : ℕ) → 1 ≤ k → k ≤ 7 → f ≡ k → ⊥ = λ k a b e. h (omega arith) (omega arith) in
-    ap lengthAs
-    (no-form f (
-      (
-        (
-          ((((tt, other 1 (omega arith) (omega arith)), other 2 (omega arith) (omega arith)), other 3 (omega arith) (omega arith)), other 4 (omega arith) (omega arith)),
-          other 5 (omega arith) (omega arith),
-        ),
-        other 6 (omega arith) (omega arith),
-      ),
-      other 7 (omega arith) (omega arith),
-    ))
-
-start-known : (f : ℕ) → 0 < lengthOf f → startNumber (startedOf f .answer) ≡ 0
-unfolding startedOf
-start-known f h = rw (ne-eqb (lengthOf f) 0 (omega arith))
-
-start-unknown : (f : ℕ) → lengthOf f ≡ 0 → startNumber (startedOf f .answer) ≡ 1
-unfolding startedOf
-start-unknown f e = rw (eq-eqb (lengthOf f) 0 e)
+      rw (fresh-is f serial)
+      (same-answers nextOf answerTo (stepNext (n - 1) n (validOf f)) (stepAnswer n (validOf f)) Alike next-alike answers-alike (silent f n) (fresh n) s
+      fresh-alike
+      ∙ step-hears (n - 1) n (validOf f) (serial-strings f some-byte) (omega (arith, some-byte)) s)
 
 -- a start refused with 1
 
-refused-length : (f : ℕ) → startNumber (startedOf f .answer) ≡ 1 → lengthOf f ≡ 0
-refused-length f h = go (eqb (lengthOf f) 0) refl
-  where
-    go : (t : Bool) → eqb (lengthOf f) 0 ≡ t → lengthOf f ≡ 0
-    go true e = eqb-true (lengthOf f) 0 e
-    go false e =
-        let z = eqb-false (lengthOf f) 0 e in
-        let k = start-known f (omega arith) in
-        absurd (omega arith)
+unheard : (b : ℕ) → (answerTo (silent 0 0) b ≡ refused 11) × (nextOf (silent 0 0) b ≡ silent 0 0)
+unfolding answerTo answerBy nextOf nextBy isBad isSerial layoutOf
+unheard b = (refl, refl)
 
-module _ where
-  no-length : lengthOf 0 ≡ 0
-  unfolding lengthOf layoutOf
-  no-length = refl
-
-  unheard : (b : ℕ) → (answerTo (silent 0 0) b ≡ refused 11) × (nextOf (silent 0 0) b ≡ silent 0 0)
-  unfolding answerTo answerBy nextOf nextBy isBad
-  unheard b = (rw no-length, rw no-length)
-
-  all-refused : (s : List ℕ) (i : ℕ) → i < length s → getD (answers nextOf answerTo (silent 0 0) s) i nothing ≡ refused 11
-  unfolding answers
-  all-refused [] i l = absurd (omega arith)
-  all-refused (b ∷ s) zero l = unheard b .0
-  all-refused (b ∷ s) (suc i) l = rw (unheard b .1) (all-refused s i (omega arith))
+all-refused : (s : List ℕ) (i : ℕ) → i < length s → getD (answers nextOf answerTo (silent 0 0) s) i nothing ≡ refused 11
+unfolding answers
+all-refused [] i l = absurd (omega arith)
+all-refused (b ∷ s) zero l = unheard b .0
+all-refused (b ∷ s) (suc i) l = rw (unheard b .1) (all-refused s i (omega arith))
 
 pub demand-3 : Demand3
 unfolding hears startedOf
 demand-3 =
     record {
-      heard = λ f a b.
-          let h = known f a b in
-          listens-by (lengthOf f) (validOf f) (serial-strings f h) (hears f) (hears-all f h);
-      started = λ f a b. start-known f (known f a b);
-      not-started = λ f h. start-unknown f (unknown f h);
-      after-refusal = λ f e s k l m. rw (eq-eqb (lengthOf f) 0 (refused-length f e)) (all-refused s (k - 1) (omega arith));
+      heard = λ f e. listens-by (lengthOf f) (validOf f) (serial-strings f (serial-long f e)) (hears f) (hears-all f e);
+      started = start-known;
+      not-started = start-unknown;
+      after-refusal = λ f e s k l m. rw (refused-form f e) (all-refused s (k - 1) (omega arith));
     }

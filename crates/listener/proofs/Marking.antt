@@ -1,15 +1,17 @@
 -- The marks still to be stored make of the marks as they are what the marks of all bytes make of those at entry.
+use mathlib.Core.Bool.{true, false}
 use mathlib.Core.List.{List, [], _∷_}
 use mathlib.Core.Path.{_≡_, refl, _∙_, ap}
 use Prim.Native.Nat.{ℕ, suc, _+_, _≤_, _<_}
 use native.Mathlib.Numerals.{add-one}
 use native.Mathlib.Omega.{arith}
-use borrow.Author.Tests.{eq-eqb, le-leb, lt-leb, ne-eqb}
+use borrow.Author.Tests.{le-leb, lt-leb}
 use lib.ListN.{length, getD, drop, set, drop-of-length-le}
 use lib.Seq.{drop-cons, sets, sets-eq}
 use Rattle.record.specs.declared.Record.{Record}
 use Rattle.record.specs.declared.answer.Writing.the-variants as writing
 use Rattle.record.specs.declared.refusal.Refusal.the-variants as refusal
+use Rattle.forms.specs.Forms.{isSerial}
 use Rattle.forms.specs.Valid.{lengthOf, validOf}
 use Rattle.stream.specs.Answer.{Answer}
 use Rattle.stream.specs.Heard.{heardAll}
@@ -39,14 +41,14 @@ marks-length [] = refl
 marks-length (a ∷ list) = ap suc (marks-length list)
 
 module _ (form : ℕ) (s before : List ℕ) where
-  pub no-form : lengthOf form ≡ 0 → Marked form s (writing.Refused refusal.UnknownForm) before before
+  pub no-form : isSerial form ≡ false → Marked form s (writing.Refused refusal.UnknownForm) before before
   unfolding markAnswer
-  no-form e = record { answer = rw (eq-eqb (lengthOf form) 0 e); left = refl }
+  no-form e = record { answer = rw e; left = refl }
 
-  module _ (known : lengthOf form ≡ 0 → ⊥) where
+  module _ (known : isSerial form ≡ true) where
     pub no-room : length before < length s → Marked form s (writing.Refused refusal.ShortBuffer) before before
     unfolding markAnswer
-    no-room h = record { answer = rw (ne-eqb (lengthOf form) 0 known, lt-leb (length s) (length before) h); left = refl }
+    no-room h = record { answer = rw (known, lt-leb (length s) (length before) h); left = refl }
 
     pub all-marked : (after : List ℕ) → length s ≤ length before → after ≡ sets before 0 (marksOf (hears form s))
         → Marked form s (writing.Written (length s)) before after
@@ -57,6 +59,6 @@ module _ (form : ℕ) (s before : List ℕ) where
         let z : 0 + length s ≡ length s = omega arith in
         let laid = sets-eq marks before 0 (rw l (omega arith)) in
         record {
-          answer = rw (ne-eqb (lengthOf form) 0 known, le-leb (length s) (length before) h);
-          left = e ∙ ap (λ (x : List (Answer Record)). sets before 0 (marksOf x)) (hears-all form (omega arith) s) ∙ laid ∙ rw (l, z);
+          answer = rw (known, le-leb (length s) (length before) h);
+          left = e ∙ ap (λ (x : List (Answer Record)). sets before 0 (marksOf x)) (hears-all form known s) ∙ laid ∙ rw (l, z);
         }

@@ -11,52 +11,53 @@ use lib.ListN.{length, getD, take, drop, set, drop-of-length-le, length-append, 
 use lib.Seq.{drop-append-le, drop-drop, drop-set-lt, ext-getD, getD-append-add, getD-drop, getD-take, set-split, take-suc, take-suc-set}
 use Rattle.choice.specs.Pick.{pick}
 use Rattle.stream.specs.Window.{lastOf}
+use Rattle.serial.specs.Shape.{longest}
 use Rattle.listener.specs.Ring.{oldestFirst, placeOf, wrapped}
 
-pub place-small : (at : ℕ) → placeOf at < 66
-place-small at = go (ltb at 66) refl
+pub place-small : (at : ℕ) → placeOf at < longest
+place-small at = go (ltb at longest) refl
   where
-    go : (t : Bool) → ltb at 66 ≡ t → pick t at 0 < 66
-    go true e = ltb-true at 66 e
+    go : (t : Bool) → ltb at longest ≡ t → pick t at 0 < longest
+    go true e = ltb-true at longest e
     go false e = omega arith
 
-wrapped-small : (k : ℕ) → k < 132 → wrapped k < 66
-wrapped-small k h = go (ltb k 66) refl
+wrapped-small : (k : ℕ) → k < longest + longest → wrapped k < longest
+wrapped-small k h = go (ltb k longest) refl
   where
-    go : (t : Bool) → ltb k 66 ≡ t → pick t k (k - 66) < 66
-    go true e = ltb-true k 66 e
+    go : (t : Bool) → ltb k longest ≡ t → pick t k (k - longest) < longest
+    go true e = ltb-true k longest e
     go false e = omega arith
 
-pub place-wrapped : (k : ℕ) → k < 132 → placeOf (wrapped k) ≡ wrapped k
-place-wrapped k h = rw (lt-ltb (wrapped k) 66 (wrapped-small k h))
+pub place-wrapped : (k : ℕ) → k < longest + longest → placeOf (wrapped k) ≡ wrapped k
+place-wrapped k h = rw (lt-ltb (wrapped k) longest (wrapped-small k h))
 
-module _ (y : List ℕ) (at : ℕ) (h : at < 66) (size : length y ≡ 66) where
-  pub ring-length : length (oldestFirst at y) ≡ 66
+module _ (y : List ℕ) (at : ℕ) (h : at < longest) (size : length y ≡ longest) where
+  pub ring-length : length (oldestFirst at y) ≡ longest
   unfolding oldestFirst
   ring-length = rw (length-append, length-drop, length-take) (omega arith)
 
-  pub ring-byte : (i : ℕ) → i < 66 → getD (oldestFirst at y) i 0 ≡ getD y (wrapped (at + i)) 0
+  pub ring-byte : (i : ℕ) → i < longest → getD (oldestFirst at y) i 0 ≡ getD y (wrapped (at + i)) 0
   unfolding oldestFirst
-  ring-byte i l = go (ltb (at + i) 66) refl
+  ring-byte i l = go (ltb (at + i) longest) refl
     where
-      front : length (drop at y) ≡ 66 - at
+      front : length (drop at y) ≡ longest - at
       front = rw length-drop (omega arith)
 
-      go : (t : Bool) → ltb (at + i) 66 ≡ t → getD (drop at y ++ take at y) i 0 ≡ getD y (pick t (at + i) (at + i - 66)) 0
+      go : (t : Bool) → ltb (at + i) longest ≡ t → getD (drop at y ++ take at y) i 0 ≡ getD y (pick t (at + i) (at + i - longest)) 0
       go true e =
-          let m : at + i < 66 = ltb-true _ _ e in
+          let m : at + i < longest = ltb-true _ _ e in
           let k : i < length (drop at y) = omega (arith, front) in
           rw (List·getD-append (drop at y) (take at y) 0 i k, getD-drop)
       go false e =
-          let m : 66 ≤ at + i = ltb-false _ _ e in
-          let k : i ≡ length (drop at y) + (at + i - 66) = omega (arith, front) in
-          let j : at + i - 66 < at = omega arith in
-          ap (λ (q : ℕ). getD (drop at y ++ take at y) q 0) k ∙ getD-append-add (drop at y) (take at y) (at + i - 66) 0
-          ∙ getD-take at y (at + i - 66) 0 j
+          let m : longest ≤ at + i = ltb-false _ _ e in
+          let k : i ≡ length (drop at y) + (at + i - longest) = omega (arith, front) in
+          let j : at + i - longest < at = omega arith in
+          ap (λ (q : ℕ). getD (drop at y ++ take at y) q 0) k ∙ getD-append-add (drop at y) (take at y) (at + i - longest) 0
+          ∙ getD-take at y (at + i - longest) 0 j
 
   pub ring-set : (b : ℕ) → oldestFirst (wrapped (at + 1)) (set y at b) ≡ drop 1 (oldestFirst at y ++ (b ∷ []))
   unfolding oldestFirst
-  ring-set b = go (ltb (at + 1) 66) refl ∙ sym (drop-append-le 1 (drop at y ++ take at y) (b ∷ []) all)
+  ring-set b = go (ltb (at + 1) longest) refl ∙ sym (drop-append-le 1 (drop at y ++ take at y) (b ∷ []) all)
     where
       l : at < length y
       l = omega arith
@@ -67,55 +68,57 @@ module _ (y : List ℕ) (at : ℕ) (h : at < 66) (size : length y ≡ 66) where
       all : 1 ≤ length (drop at y ++ take at y)
       all = rw (length-append, length-drop, length-take) (omega arith)
 
-      go : (t : Bool) → ltb (at + 1) 66 ≡ t
-          → drop (pick t (at + 1) (at + 1 - 66)) (set y at b) ++ take (pick t (at + 1) (at + 1 - 66)) (set y at b) ≡ drop 1 (drop at y ++ take at y) ++ (b ∷ [])
+      go : (t : Bool) → ltb (at + 1) longest ≡ t
+          → drop (pick t (at + 1) (at + 1 - longest)) (set y at b) ++ take (pick t (at + 1) (at + 1 - longest)) (set y at b)
+          ≡ drop 1 (drop at y ++ take at y) ++ (b ∷ [])
       go true e =
           let s : at < at + 1 = omega arith in
           rw (drop-append-le 1 (drop at y) (take at y) one, drop-drop 1 at y, drop-set-lt (at + 1) y at b s, append-assoc)
           (ap (λ (k : List ℕ). drop (at + 1) y ++ k) (rw add-one (take-suc-set y at b l)))
       go false e =
-          let m : 66 ≤ at + 1 = ltb-false _ _ e in
-          let z : at + 1 - 66 ≡ 0 = omega arith in
+          let m : longest ≤ at + 1 = ltb-false _ _ e in
+          let z : at + 1 - longest ≡ 0 = omega arith in
           let n : length y ≤ at + 1 = omega arith in
           let n2 : length y ≤ suc at = omega arith in
           rw (drop-append-le 1 (drop at y) (take at y) one, drop-drop 1 at y, drop-of-length-le y n, z, append-nil, set-split y at b l, drop-of-length-le y n2)
 
   -- one byte more in a row
-  pub one-more : (z : List ℕ) (i j : ℕ) → i < 66 → length z ≡ 66 → j ≡ wrapped (at + i) → take i z ≡ take i (oldestFirst at y)
+  pub one-more : (z : List ℕ) (i j : ℕ) → i < longest → length z ≡ longest → j ≡ wrapped (at + i) → take i z ≡ take i (oldestFirst at y)
       → take (i + 1) (set z i (getD y j 0)) ≡ take (i + 1) (oldestFirst at y)
   one-more z i j l s q e =
       let m : i < length z = omega arith in
       let k : i < length (oldestFirst at y) = omega (arith, ring-length) in
       rw (add-one, take-suc-set z i (getD y j 0) m, take-suc (oldestFirst at y) i 0 k, ring-byte i l, e, q)
 
-module _ (y : List ℕ) (at : ℕ) (h : at < 66) (size : length y ≡ 66) where
+module _ (y : List ℕ) (at : ℕ) (h : at < longest) (size : length y ≡ longest) where
   -- the last n bytes stand in the ring from the place that is n before the next one
-  pub last-bytes : (n : ℕ) → 0 < n → n ≤ 66 → take n (oldestFirst (wrapped (at + (66 - n))) y) ≡ lastOf n (oldestFirst at y)
+  pub last-bytes : (n : ℕ) → 0 < n → n ≤ longest → take n (oldestFirst (wrapped (at + (longest - n))) y) ≡ lastOf n (oldestFirst at y)
   unfolding lastOf
   last-bytes n l m =
-      let low : at + (66 - n) < 132 = omega arith in
-      let long : length (take n (oldestFirst (wrapped (at + (66 - n))) y)) ≡ n = rw (length-take, turned low) (omega arith) in
+      let low : at + (longest - n) < longest + longest = omega arith in
+      let long : length (take n (oldestFirst (wrapped (at + (longest - n))) y)) ≡ n = rw (length-take, turned low) (omega arith) in
       let same : length (drop (length (oldestFirst at y) - n) (oldestFirst at y)) ≡ n = rw (length-drop, ring-length y at h size) (omega arith) in
       ext-getD 0 _ _ (long ∙ sym same) (λ i q. byte low i (rw long at q))
     where
-      turned : at + (66 - n) < 132 → length (oldestFirst (wrapped (at + (66 - n))) y) ≡ 66
-      turned low = ring-length y (wrapped (at + (66 - n))) (wrapped-small (at + (66 - n)) low) size
+      turned : at + (longest - n) < longest + longest → length (oldestFirst (wrapped (at + (longest - n))) y) ≡ longest
+      turned low = ring-length y (wrapped (at + (longest - n))) (wrapped-small (at + (longest - n)) low) size
 
-      twice : (i : ℕ) → i < n → wrapped (wrapped (at + (66 - n)) + i) ≡ wrapped (at + (66 - n + i))
-      twice i q = go (ltb (at + (66 - n)) 66) refl
+      twice : (i : ℕ) → i < n → wrapped (wrapped (at + (longest - n)) + i) ≡ wrapped (at + (longest - n + i))
+      twice i q = go (ltb (at + (longest - n)) longest) refl
         where
-          go : (t : Bool) → ltb (at + (66 - n)) 66 ≡ t → wrapped (pick t (at + (66 - n)) (at + (66 - n) - 66) + i) ≡ wrapped (at + (66 - n + i))
-          go true e = let k : at + (66 - n) + i ≡ at + (66 - n + i) = omega arith in rw k
+          go : (t : Bool) → ltb (at + (longest - n)) longest ≡ t
+              → wrapped (pick t (at + (longest - n)) (at + (longest - n) - longest) + i) ≡ wrapped (at + (longest - n + i))
+          go true e = let k : at + (longest - n) + i ≡ at + (longest - n + i) = omega arith in rw k
           go false e =
-              let f = ltb-false (at + (66 - n)) 66 e in
-              let a : at + (66 - n) - 66 + i < 66 = omega arith in
-              let b : 66 ≤ at + (66 - n + i) = omega arith in
-              rw (lt-ltb _ 66 a, le-ltb _ 66 b) (omega arith)
+              let f = ltb-false (at + (longest - n)) longest e in
+              let a : at + (longest - n) - longest + i < longest = omega arith in
+              let b : longest ≤ at + (longest - n + i) = omega arith in
+              rw (lt-ltb _ longest a, le-ltb _ longest b) (omega arith)
 
-      byte : at + (66 - n) < 132 → (i : ℕ) → i < n
-          → getD (take n (oldestFirst (wrapped (at + (66 - n))) y)) i 0 ≡ getD (drop (length (oldestFirst at y) - n) (oldestFirst at y)) i 0
+      byte : at + (longest - n) < longest + longest → (i : ℕ) → i < n
+          → getD (take n (oldestFirst (wrapped (at + (longest - n))) y)) i 0 ≡ getD (drop (length (oldestFirst at y) - n) (oldestFirst at y)) i 0
       byte low i q =
           getD-take n _ i 0 q
-          ∙ ring-byte y (wrapped (at + (66 - n))) (wrapped-small (at + (66 - n)) low) size i (omega arith)
+          ∙ ring-byte y (wrapped (at + (longest - n))) (wrapped-small (at + (longest - n)) low) size i (omega arith)
           ∙ ap (λ (k : ℕ). getD y k 0) (twice i q)
-          ∙ sym (rw (ring-length y at h size) (getD-drop (66 - n) (oldestFirst at y) i 0 ∙ ring-byte y at h size (66 - n + i) (omega arith)))
+          ∙ sym (rw (ring-length y at h size) (getD-drop (longest - n) (oldestFirst at y) i 0 ∙ ring-byte y at h size (longest - n + i) (omega arith)))

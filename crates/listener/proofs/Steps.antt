@@ -1,21 +1,24 @@
 -- A state of the ring is a state of the stream: a byte stored in the ring moves it on as the step over the kept bytes does.
-use mathlib.Core.Bool.{Bool, true, false, _||_}
+use mathlib.Core.Bool.{Bool, true, false, not, _||_}
 use mathlib.Core.List.{List, [], _∷_, _++_}
 use mathlib.Core.Option.{none}
 use mathlib.Core.Path.{_≡_, refl, sym, _∙_, ap}
 use Prim.Native.Nat.{ℕ, _+_, _-_, _≤_, _<_, min}
 use native.Mathlib.Omega.{arith}
-use borrow.Author.Tests.{eqb-false, eqb-true, le-leb, le-ltb, lt-leb, lt-ltb, ne-eqb}
+use borrow.Author.Tests.{eqb-false, eqb-true, le-leb, le-ltb, lt-leb, lt-ltb}
 use lib.Dec.{eqb, leb, ltb}
 use lib.ListN.{length, getD, drop, set, length-append, length-drop, length-set}
 use lib.Seq.{drop-append-le, drop-drop, getD-at, getD-drop}
 use Rattle.choice.specs.Pick.{pick}
 use Rattle.record.specs.declared.answer.Reading.{Reading}
 use Rattle.record.specs.declared.refusal.Refusal.the-variants as refusal
+use Rattle.forms.specs.Forms.{isSerial}
 use Rattle.forms.specs.Valid.{lengthOf, recordIn, validOf}
+use Rattle.serial.proofs.Lengths.{serial-long, some-serial}
 use Rattle.stream.specs.Distance.{distanceAfter, stepAnswer, unlessOverlap}
 use Rattle.stream.specs.Listener.{hit, keptAfter}
 use Rattle.stream.specs.Window.{lastOf}
+use Rattle.serial.specs.Shape.{longest}
 use Rattle.listener.specs.Listening.{FedBy, answerBy, answerOf, answerTo, isBad, movedBy, nextBy, nextOf, stateOf}
 use Rattle.listener.specs.Ring.{oldestFirst, placeOf, wrapped}
 use Rattle.listener.specs.declared.Heard.{Heard}
@@ -25,82 +28,89 @@ use Rattle.listener.proofs.Rings.{place-small, ring-length, ring-set}
 
 -- what refusal 11 names
 
-module _ (n : ℕ) (l : Listener) where
+module _ (n : ℕ) (l : Listener) (is : n ≡ lengthOf (l .form)) where
   pub many-kept : n ≤ l .kept → isBad n l ≡ true
   unfolding isBad
-  many-kept h = go (eqb n 0) refl
+  many-kept h = go (isSerial (l .form)) refl
     where
-      go : (t : Bool) → eqb n 0 ≡ t → (t || (ltb (n - 1) (l .kept) || ltb n (l .distance))) ≡ true
-      go true e = refl
-      go false e = let z = eqb-false n 0 e in rw (lt-ltb (n - 1) (l .kept) (omega arith))
+      go : (t : Bool) → isSerial (l .form) ≡ t → (not t || (ltb (n - 1) (l .kept) || ltb n (l .distance))) ≡ true
+      go true e = let z = serial-long (l .form) e in rw (lt-ltb (n - 1) (l .kept) (omega arith))
+      go false e = refl
 
-  pub far-away : l .kept < n → n < l .distance → isBad n l ≡ true
-  unfolding isBad
-  far-away k h = rw (ne-eqb n 0 (omega arith), le-ltb (n - 1) (l .kept) (omega arith), lt-ltb n (l .distance) h)
+  module _ (small : l .kept < n) where
+    known : isSerial (l .form) ≡ true
+    known = some-serial (l .form) (λ e. omega arith)
 
-  pub not-bad : l .kept < n → l .distance ≤ n → isBad n l ≡ false
-  unfolding isBad
-  not-bad k h = rw (ne-eqb n 0 (omega arith), le-ltb (n - 1) (l .kept) (omega arith), le-ltb n (l .distance) h)
+    pub far-away : n < l .distance → isBad n l ≡ true
+    unfolding isBad
+    far-away h = rw (known, le-ltb (n - 1) (l .kept) (omega arith), lt-ltb n (l .distance) h)
+
+    pub not-bad : l .distance ≤ n → isBad n l ≡ false
+    unfolding isBad
+    not-bad h = rw (known, le-ltb (n - 1) (l .kept) (omega arith), le-ltb n (l .distance) h)
 
 -- the kept bytes in the ring
 
-module _ (l : Listener) (b n : ℕ) (sized : length (l .bytes) ≡ 66) (small : l .kept < n) (most : n ≤ 66) where
+module _ (l : Listener) (b n : ℕ) (sized : length (l .bytes) ≡ longest) (small : l .kept < n) (most : n ≤ longest) where
   abbrev ring : List ℕ
   ring = oldestFirst (placeOf (l .at)) (l .bytes)
 
-  long : length ring ≡ 66
+  long : length ring ≡ longest
   long = ring-length (l .bytes) (placeOf (l .at)) (place-small (l .at)) sized
 
   -- the ring with the byte
-  turned : oldestFirst (wrapped (placeOf (l .at) + 1)) (set (l .bytes) (placeOf (l .at)) b) ≡ drop 1 (ring ++ (b ∷ []))
+  abbrev next : List ℕ
+  next = oldestFirst (wrapped (placeOf (l .at) + 1)) (set (l .bytes) (placeOf (l .at)) b)
+
+  turned : next ≡ drop 1 (ring ++ (b ∷ []))
   turned = ring-set (l .bytes) (placeOf (l .at)) (place-small (l .at)) sized b
 
-  longer : stateOf l .kept ++ (b ∷ []) ≡ drop (66 - l .kept) (ring ++ (b ∷ []))
+  longer : stateOf l .kept ++ (b ∷ []) ≡ drop (longest - l .kept) (ring ++ (b ∷ []))
   unfolding stateOf lastOf
-  longer = rw long (sym (drop-append-le (66 - l .kept) ring (b ∷ []) (omega (arith, long))))
+  longer = rw long (sym (drop-append-le (longest - l .kept) ring (b ∷ []) (omega (arith, long))))
 
   pub kept-length : length (stateOf l .kept) ≡ l .kept
   unfolding stateOf lastOf
   kept-length = rw (length-drop, long) (omega arith)
 
-  last-turned : (m : ℕ) → m ≤ 66 → lastOf m (oldestFirst (wrapped (placeOf (l .at) + 1)) (set (l .bytes) (placeOf (l .at)) b)) ≡ drop (67 - m) (ring ++ (b ∷ []))
+  last-turned : (m : ℕ) → m ≤ longest → lastOf m next ≡ drop (longest + 1 - m) (ring ++ (b ∷ []))
   unfolding lastOf
   last-turned m h =
-      let e : 1 + (66 + 1 - 1 - m) ≡ 67 - m = omega arith in
+      let e : 1 + (longest + 1 - 1 - m) ≡ longest + 1 - m = omega arith in
       rw (turned, length-drop, length-append, long, drop-drop, e)
 
-  last-longer : (m : ℕ) → lastOf m (stateOf l .kept ++ (b ∷ [])) ≡ drop (66 - l .kept + (l .kept + 1 - m)) (ring ++ (b ∷ []))
+  last-longer : (m : ℕ) → lastOf m (stateOf l .kept ++ (b ∷ [])) ≡ drop (longest - l .kept + (l .kept + 1 - m)) (ring ++ (b ∷ []))
   unfolding lastOf
   last-longer m = rw (length-append, kept-length, longer, drop-drop)
 
   pub hit-ring : (f : ℕ)
-      → pick (eqb (l .kept + 1) n) (validOf f (lastOf n (oldestFirst (wrapped (placeOf (l .at) + 1)) (set (l .bytes) (placeOf (l .at)) b)))) none
+      → pick (eqb (l .kept + 1) n) (validOf f (lastOf n next)) none
       ≡ hit n (validOf f) (stateOf l .kept) b
   unfolding hit
   hit-ring f = rw kept-length (go (eqb (l .kept + 1) n) refl)
     where
       go : (t : Bool) → eqb (l .kept + 1) n ≡ t
-          → pick t (validOf f (lastOf n (oldestFirst (wrapped (placeOf (l .at) + 1)) (set (l .bytes) (placeOf (l .at)) b)))) none
+          → pick t (validOf f (lastOf n next)) none
           ≡ pick (leb n (l .kept + 1)) (validOf f (lastOf n (stateOf l .kept ++ (b ∷ [])))) none
       go true e =
           let full = eqb-true (l .kept + 1) n e in
-          let k : 67 - n ≡ 66 - l .kept + (l .kept + 1 - n) = omega arith in
+          let k : longest + 1 - n ≡ longest - l .kept + (l .kept + 1 - n) = omega arith in
           rw (le-leb n (l .kept + 1) (omega arith), last-turned n most, last-longer n, k)
       go false e = let more = eqb-false (l .kept + 1) n e in rw (lt-leb n (l .kept + 1) (omega arith))
 
-  pub kept-ring : lastOf (min (l .kept + 1) (n - 1)) (oldestFirst (wrapped (placeOf (l .at) + 1)) (set (l .bytes) (placeOf (l .at)) b)) ≡ keptAfter (n - 1) (stateOf l .kept) b
+  pub kept-ring : lastOf (min (l .kept + 1) (n - 1)) next ≡ keptAfter (n - 1) (stateOf l .kept) b
   unfolding keptAfter
   kept-ring =
-      let k : 67 - min (l .kept + 1) (n - 1) ≡ 66 - l .kept + (l .kept + 1 - (n - 1)) = omega arith in
+      let k : longest + 1 - min (l .kept + 1) (n - 1) ≡ longest - l .kept + (l .kept + 1 - (n - 1)) = omega arith in
       rw (last-turned (min (l .kept + 1) (n - 1)) (omega arith), last-longer (n - 1), k)
 
 -- the newest byte of the ring
-pub newest-byte : (x : List ℕ) (place b : ℕ) (y : List ℕ) (up : ℕ) → place < 66 → y ≡ set x place b → length y ≡ 66 → up ≡ wrapped (place + 1)
-    → getD (oldestFirst up y) 65 0 ≡ b
+pub newest-byte : (x : List ℕ) (place b : ℕ) (y : List ℕ) (up : ℕ) → place < longest → y ≡ set x place b → length y ≡ longest → up ≡ wrapped (place + 1)
+    → getD (oldestFirst up y) (longest - 1) 0 ≡ b
 newest-byte x place b y up h ey long eu =
-    let sized : length x ≡ 66 = sym (length-set x place b) ∙ ap length (sym ey) ∙ long in
-    let l : length (oldestFirst place x) ≡ 66 = ring-length x place h sized in
-    rw (ey, eu, ring-set x place h sized b, getD-drop) (getD-at (oldestFirst place x) b [] 0 66 l)
+    let sized : length x ≡ longest = sym (length-set x place b) ∙ ap length (sym ey) ∙ long in
+    let l : length (oldestFirst place x) ≡ longest = ring-length x place h sized in
+    rw (ey, eu, ring-set x place h sized b, getD-drop) (getD-at (oldestFirst place x) b [] 0 longest l)
 
 -- what `feed` answers and leaves
 
@@ -109,14 +119,14 @@ module _ (l : Listener) (b n : ℕ) (is : n ≡ lengthOf (l .form)) where
   unfolding nextOf nextBy answerTo answerBy
   refused-state h = record { next = rw (← is, h); answer = rw (← is, h) }
 
-  module _ (small : l .kept < n) (near : l .distance ≤ n) (most : n ≤ 66) (sized : length (l .bytes) ≡ 66) where
+  module _ (small : l .kept < n) (near : l .distance ≤ n) (most : n ≤ longest) (sized : length (l .bytes) ≡ longest) where
     pub answer-is : answerTo l b ≡ stepAnswer n (validOf (l .form)) (stateOf l) b
     unfolding answerTo answerBy
-    answer-is = rw (← is, not-bad n l small near)
+    answer-is = rw (← is, not-bad n l is small near)
 
     pub next-is : nextOf l b ≡ movedBy n l b (answerTo l b)
     unfolding nextOf nextBy answerTo
-    next-is = rw (← is, not-bad n l small near)
+    next-is = rw (← is, not-bad n l is small near)
 
     pub moves-on :
         (place up kept distance : ℕ) (y : List ℕ) (reading : Reading) (answer : Heard)
@@ -127,7 +137,7 @@ module _ (l : Listener) (b n : ℕ) (is : n ≡ lengthOf (l .form)) where
         → FedBy l b (record { next = record { bytes = y; at = up; kept = kept; distance = distance; form = l .form }; heard = answer })
     unfolding nextOf nextBy movedBy answerBy stepAnswer stateOf
     moves-on place up kept distance y reading answer ep ey eu er ea ek ed =
-        record { next = rw (← is, not-bad n l small near, ek, ed, told, eu, ey, ep); answer = told ∙ sym answer-is }
+        record { next = rw (← is, not-bad n l is small near, ek, ed, told, eu, ey, ep); answer = told ∙ sym answer-is }
       where
         told : answerOf answer ≡ unlessOverlap n (l .distance) (hit n (validOf (l .form)) (stateOf l .kept) b)
         told =

@@ -12,6 +12,7 @@ use Rattle.choice.specs.Pick.{pick}
 use Rattle.forms.specs.Valid.{endOf, startOf, validOf}
 use Rattle.stream.specs.Window.{lastOf}
 use Rattle.serial.proofs.Strings.{wrong-end, wrong-start}
+use Rattle.serial.specs.Shape.{longest}
 use Rattle.listener.specs.Ring.{oldestFirst, wrapped}
 use Rattle.listener.proofs.Rings.{ring-byte, ring-length}
 
@@ -20,19 +21,20 @@ either-way : (t : Bool) (f : ℕ) (s : List ℕ) → validOf f s ≡ none → no
 either-way true f s e = sym e
 either-way false f s e = refl
 
-module _ (f : ℕ) (y : List ℕ) (at n : ℕ) (h : at < 66) (sized : length y ≡ 66) (some-byte : 0 < n) (most : n ≤ 66) (t : Bool) where
-  at-byte : (i : ℕ) → getD (lastOf n (oldestFirst at y)) i 0 ≡ getD (oldestFirst at y) (66 - n + i) 0
+module _ (f : ℕ) (y : List ℕ) (at n : ℕ) (h : at < longest) (sized : length y ≡ longest) (some-byte : 0 < n) (most : n ≤ longest) (t : Bool) where
+  at-byte : (i : ℕ) → getD (lastOf n (oldestFirst at y)) i 0 ≡ getD (oldestFirst at y) (longest - n + i) 0
   unfolding lastOf
-  at-byte i = rw (ring-length y at h sized) (getD-drop (66 - n) (oldestFirst at y) i 0)
+  at-byte i = rw (ring-length y at h sized) (getD-drop (longest - n) (oldestFirst at y) i 0)
 
-  pub other-end : (b : ℕ) → getD (oldestFirst at y) 65 0 ≡ b → (b ≡ endOf f → ⊥) → none ≡ pick t (validOf f (lastOf n (oldestFirst at y))) none
+  pub other-end : (b : ℕ) → getD (oldestFirst at y) (longest - 1) 0 ≡ b → (b ≡ endOf f → ⊥) → none ≡ pick t (validOf f (lastOf n (oldestFirst at y))) none
   other-end b eb other =
       let l : length (lastOf n (oldestFirst at y)) ≡ n = unfold lastOf in rw (length-drop, ring-length y at h sized) (omega arith) in
-      let e : 66 - n + (n - 1) ≡ 65 = omega arith in
+      let e : longest - n + (n - 1) ≡ (longest - 1) = omega arith in
       let last = at-byte (n - 1) in
-      either-way t f _ (wrong-end f (lastOf n (oldestFirst at y)) (λ q. other (sym eb ∙ ap (λ (k : ℕ). getD (oldestFirst at y) k 0) (sym e) ∙ sym last ∙ (rw l at q))))
+      let there = sym eb ∙ ap (λ (k : ℕ). getD (oldestFirst at y) k 0) (sym e) ∙ sym last in
+      either-way t f _ (wrong-end f (lastOf n (oldestFirst at y)) (λ q. other (there ∙ (rw l at q))))
 
-  pub other-start : (getD y (wrapped (at + (66 - n))) 0 ≡ startOf f → ⊥) → none ≡ pick t (validOf f (lastOf n (oldestFirst at y))) none
+  pub other-start : (getD y (wrapped (at + (longest - n))) 0 ≡ startOf f → ⊥) → none ≡ pick t (validOf f (lastOf n (oldestFirst at y))) none
   other-start other =
-      let first = at-byte 0 ∙ ap (λ (k : ℕ). getD (oldestFirst at y) k 0) (add-zero (66 - n)) ∙ ring-byte y at h sized (66 - n) (omega arith) in
+      let first = at-byte 0 ∙ ap (λ (k : ℕ). getD (oldestFirst at y) k 0) (add-zero (longest - n)) ∙ ring-byte y at h sized (longest - n) (omega arith) in
       either-way t f _ (wrong-start f (lastOf n (oldestFirst at y)) (λ q. other (sym first ∙ q)))

@@ -1,19 +1,21 @@
 -- What a new listener is, and what a byte does to one, on every state.
-use mathlib.Core.Bool.{Bool, _||_}
+use mathlib.Core.Bool.{Bool, not, _||_}
 use mathlib.Core.List.{List}
 use mathlib.Core.Path.{_≡_}
 use Prim.Native.Nat.{ℕ, _+_, _-_, min}
-use lib.Dec.{eqb, ltb}
+use lib.Dec.{ltb}
 use lib.ListN.{replicate, set}
 use Rattle.choice.specs.Pick.{pick}
 use Rattle.record.specs.declared.Record.{Record}
 use Rattle.record.specs.declared.refusal.Refusal.the-variants as refusal
 use Rattle.record.specs.Refusal.{numberOf}
+use Rattle.forms.specs.Forms.{isSerial}
 use Rattle.forms.specs.Valid.{lengthOf, validOf}
 use Rattle.stream.specs.Answer.{Answer, handed, nothing, refused}
 use Rattle.stream.specs.Distance.{State, distanceAfter, stepAnswer}
 use Rattle.stream.specs.Machine.{answers}
 use Rattle.stream.specs.Window.{lastOf}
+use Rattle.serial.specs.Shape.{longest}
 use Rattle.listener.specs.Ring.{oldestFirst, placeOf, wrapped}
 use Rattle.listener.specs.declared.Fed.{Fed}
 use Rattle.listener.specs.declared.Heard.{Heard}
@@ -33,9 +35,9 @@ answerOf (heard.Refused x) = refused (numberOf x)
 unfoldable pub stateOf : Listener → State
 stateOf l = record { kept = lastOf (l .kept) (oldestFirst (placeOf (l .at)) (l .bytes)); distance = l .distance }
 
--- "form not 1..7, more than n-1 bytes kept, or a distance over n"; n is 0 for any other form
+-- "form not 1..7, more than n-1 bytes kept, or a distance over n"
 unfoldable pub isBad : ℕ → Listener → Bool
-isBad n l = eqb n 0 || (ltb (n - 1) (l .kept) || ltb n (l .distance))
+isBad n l = not (isSerial (l .form)) || (ltb (n - 1) (l .kept) || ltb n (l .distance))
 
 -- the answer to a byte, n being the form's length: "Refusal 11", or what the step answers
 unfoldable pub answerBy : ℕ → Listener → ℕ → Answer Record
@@ -70,13 +72,13 @@ pub record FedBy (l : Listener) (b : ℕ) (f : Fed) : Type 0 where
 
 -- a listener with no bytes
 abbrev pub silent : ℕ → ℕ → Listener
-silent form distance = record { bytes = replicate 66 0; at = 0; kept = 0; distance = distance; form = form }
+silent form distance = record { bytes = replicate longest 0; at = 0; kept = 0; distance = distance; form = form }
 
 -- "fresh means no bytes and distance n"; "A new listener for a wrong form answers 1 and a state of form 0 with no bytes and distance 0."
 unfoldable pub startedOf : ℕ → Started
 startedOf form =
-    pick (eqb (lengthOf form) 0) (record { listener = silent 0 0; answer = starting.Refused refusal.UnknownForm })
-    (record { listener = silent form (lengthOf form); answer = starting.Fresh })
+    pick (isSerial form) (record { listener = silent form (lengthOf form); answer = starting.Fresh })
+    (record { listener = silent 0 0; answer = starting.Refused refusal.UnknownForm })
 
 -- the paper's number of a start, 0 for none
 abbrev pub startNumber : Starting → ℕ

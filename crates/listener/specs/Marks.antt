@@ -2,7 +2,7 @@
 use mathlib.Core.List.{List, [], _∷_}
 use mathlib.Core.Path.{_≡_}
 use Prim.Native.Nat.{ℕ}
-use lib.Dec.{eqb, leb}
+use lib.Dec.{leb}
 use lib.ListN.{length}
 use Rattle.choice.specs.Pick.{pick}
 use Rattle.record.specs.declared.Record.{Record}
@@ -10,6 +10,7 @@ use Rattle.record.specs.declared.answer.Writing.{Writing}
 use Rattle.record.specs.declared.answer.Writing.the-variants as writing
 use Rattle.record.specs.declared.refusal.Refusal.the-variants as refusal
 use Rattle.forms.specs.Form.{leftOf}
+use Rattle.forms.specs.Forms.{isSerial}
 use Rattle.forms.specs.Valid.{lengthOf, validOf}
 use Rattle.stream.specs.Answer.{Answer, handed, nothing, refused}
 use Rattle.stream.specs.Heard.{heardAll}
@@ -27,8 +28,7 @@ marksOf (a ∷ list) = markOf a ∷ marksOf list
 -- refusal 1, then 10; else a mark for each byte
 unfoldable pub markAnswer : ℕ → ℕ → ℕ → Writing
 markAnswer form bytes room =
-    pick (eqb (lengthOf form) 0) (writing.Refused refusal.UnknownForm)
-    (pick (leb bytes room) (writing.Written bytes) (writing.Refused refusal.ShortBuffer))
+    pick (isSerial form) (pick (leb bytes room) (writing.Written bytes) (writing.Refused refusal.ShortBuffer)) (writing.Refused refusal.UnknownForm)
 
 -- what the contract says: "Byte k .. hands out the record of bytes k-n+1 to k if k is at least n and they are a valid string, else nothing;
 -- neither 11 nor 13 occurs.", for every byte of the list

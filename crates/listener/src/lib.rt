@@ -3,16 +3,18 @@ ghost use mathlib.Core.Path.{_≡_};
 ghost use mathlib.Core.Option.{none};
 ghost use lib.Dec.{eqb};
 ghost use Prim.Native.Nat.{_+_, _-_, _≤_, _<_, min};
-ghost use lib.ListN.{getD};
 ghost use Rattle.choice.specs.Pick.{pick};
-ghost use Rattle.forms.specs.Valid.{lengthOf, recordIn, validOf};
+ghost use Rattle.forms.specs.Valid.{recordIn, validOf};
+ghost use Rattle.serial.specs.Shape.{longest};
 ghost use Rattle.stream.specs.Distance.{distanceAfter, unlessOverlap};
 ghost use Rattle.stream.specs.Window.{lastOf};
-ghost use Rattle.listener.specs.Ring.{oldestFirst};
+ghost use Rattle.listener.specs.Ring.{Completing, oldestFirst};
 ghost use Rattle.listener.specs.Listening.{FedBy, answerOf, startNumber, startedOf};
 use record::Record;
 use record::answer::Reading;
 use record::refusal::Refusal;
+use serial::LONGEST;
+use serial::Shape;
 
 mod marks;
 mod ring;
@@ -21,7 +23,7 @@ pub use marks::mark;
 
 // The last bytes fed stand in a ring, the last `kept` of them count, and the next one goes to place `at`.
 pub struct Listener {
-    pub bytes: [u8; 66],
+    pub bytes: [u8; LONGEST],
     pub at: usize,
     pub kept: usize,
     pub distance: usize,
@@ -64,36 +66,37 @@ impl Starting {
 }
 
 // The last n bytes of a ring, read.
-fn newest(form: u32, y: [u8; 66], at: usize, n: usize) -> Reading
-    requires { ⌜ (at < 66) × ((0 < n) × (n ≤ 66)) ⌝ }
+fn newest(form: u32, y: [u8; LONGEST], at: usize, n: usize) -> Reading
+    requires { ⌜ (at < longest) × ((0 < n) × (n ≤ longest)) ⌝ }
     ensures { λ r. ⌜ recordIn r ≡ validOf form (lastOf n (oldestFirst at y)) ⌝ }
 {
-    let from = ring::wrap(at + (66 - n));
+    let from = ring::wrap(at + (LONGEST - n));
     let z = ring::in_order(y, from, n);
     serial::read(form, &z[0..n])
 }
 
 // The string that byte b completes. The byte itself, the count and the first byte are tested before the reader runs.
-fn completed(form: u32, y: [u8; 66], at: usize, n: usize, kept: usize, b: u8) -> Reading
-    requires { ⌜ (at < 66) × ((n ≡ lengthOf form) × ((kept < n) × ((n ≤ 66) × (getD (oldestFirst at y) 65 0 ≡ b)))) ⌝ }
-    ensures { λ r. ⌜ recordIn r ≡ pick (eqb (kept + 1) n) (validOf form (lastOf n (oldestFirst at y))) none ⌝ }
+fn completed(form: u32, shape: Shape, y: [u8; LONGEST], at: usize, kept: usize, b: u8) -> Reading
+    requires { ⌜ Completing form shape at y kept b ⌝ }
+    ensures { λ r. ⌜ recordIn r ≡ pick (eqb (kept + 1) (shape .length)) (validOf form (lastOf (shape .length) (oldestFirst at y))) none ⌝ }
 {
-    if b != serial::end_of(form) {
+    let n = shape.length;
+    if b != shape.end {
         return Reading::Refused(Refusal::WrongByte);
     }
     if kept + 1 != n {
         return Reading::Refused(Refusal::WrongLength);
     }
-    let first = ring::wrap(at + (66 - n));
-    if y[first] != serial::start_of(form) {
+    let first = ring::wrap(at + (LONGEST - n));
+    if y[first] != shape.start {
         return Reading::Refused(Refusal::WrongByte);
     }
     newest(form, y, at, n)
 }
 
 // The record of a string that was completed, if it ends n bytes or more behind the last one handed out.
-fn handed_out(reading: Reading, distance: usize, n: usize) -> Heard
-    requires { ⌜ (distance ≤ n) × (n ≤ 66) ⌝ }
+fn emitted(reading: Reading, distance: usize, n: usize) -> Heard
+    requires { ⌜ (distance ≤ n) × (n ≤ longest) ⌝ }
     ensures { λ r. ⌜ answerOf r ≡ unlessOverlap n distance (recordIn reading) ⌝ }
 {
     match reading {
@@ -116,7 +119,7 @@ fn one_more(distance: usize, n: usize) -> usize
 }
 
 fn distance_after(answer: Heard, distance: usize, n: usize) -> usize
-    requires { ⌜ (distance ≤ n) × (n ≤ 66) ⌝ }
+    requires { ⌜ (distance ≤ n) × (n ≤ longest) ⌝ }
     ensures { λ r. ⌜ r ≡ distanceAfter n distance (answerOf answer) ⌝ }
 {
     match answer {
@@ -126,7 +129,7 @@ fn distance_after(answer: Heard, distance: usize, n: usize) -> usize
     }
 }
 
-fn kept_after(kept: usize, n: usize) -> usize
+fn buffered_after(kept: usize, n: usize) -> usize
     requires { ⌜ kept < n ⌝ }
     ensures { λ r. ⌜ r ≡ min (kept + 1) (n - 1) ⌝ }
 {
@@ -141,7 +144,7 @@ impl Listener {
         if n == 0 {
             return Started {
                 listener: Listener {
-                    bytes: [0u8; 66],
+                    bytes: [0u8; LONGEST],
                     at: 0,
                     kept: 0,
                     distance: 0,
@@ -152,7 +155,7 @@ impl Listener {
         }
         Started {
             listener: Listener {
-                bytes: [0u8; 66],
+                bytes: [0u8; LONGEST],
                 at: 0,
                 kept: 0,
                 distance: n,
@@ -166,7 +169,8 @@ impl Listener {
         ensures { λ r. ⌜ FedBy self b r ⌝ }
     {
         let form = self.form;
-        let n = serial::length_of(form);
+        let shape = serial::shape_of(form);
+        let n = shape.length;
         let kept = self.kept;
         let distance = self.distance;
         if n <= kept {
@@ -185,13 +189,13 @@ impl Listener {
         let before = self.bytes;
         let bytes = ring::with_byte(before, place, b);
         let at = ring::wrap(place + 1);
-        let reading = completed(form, bytes, at, n, kept, b);
-        let answer = handed_out(reading, distance, n);
+        let reading = completed(form, shape, bytes, at, kept, b);
+        let answer = emitted(reading, distance, n);
         Fed {
             next: Listener {
                 bytes,
                 at,
-                kept: kept_after(kept, n),
+                kept: buffered_after(kept, n),
                 distance: distance_after(answer, distance, n),
                 form,
             },

@@ -3,25 +3,27 @@ ghost use mathlib.Core.Path.{_≡_};
 ghost use Prim.Native.Nat.{_+_, _-_, _≤_, _<_};
 ghost use lib.ListN.{length, set, take};
 ghost use Rattle.listener.specs.Ring.{oldestFirst, placeOf, wrapped};
+ghost use Rattle.serial.specs.Shape.{longest};
+use serial::LONGEST;
 
 // The place of a number below two rounds.
 pub fn wrap(k: usize) -> usize
-    requires { ⌜ k < 132 ⌝ }
-    ensures { λ r. ⌜ (r ≡ wrapped k) × (r < 66) ⌝ }
+    requires { ⌜ k < longest + longest ⌝ }
+    ensures { λ r. ⌜ (r ≡ wrapped k) × (r < longest) ⌝ }
 {
-    if k < 66 { k } else { k - 66 }
+    if k < LONGEST { k } else { k - LONGEST }
 }
 
 // Every number names a place.
 pub fn place(at: usize) -> usize
-    ensures { λ r. ⌜ (r ≡ placeOf at) × (r < 66) ⌝ }
+    ensures { λ r. ⌜ (r ≡ placeOf at) × (r < longest) ⌝ }
 {
-    if at < 66 { at } else { 0 }
+    if at < LONGEST { at } else { 0 }
 }
 
-pub fn with_byte(x: [u8; 66], at: usize, b: u8) -> [u8; 66]
-    requires { ⌜ at < 66 ⌝ }
-    ensures { λ r. ⌜ (r ≡ set x at b) × (length r ≡ 66) ⌝ }
+pub fn with_byte(x: [u8; LONGEST], at: usize, b: u8) -> [u8; LONGEST]
+    requires { ⌜ at < longest ⌝ }
+    ensures { λ r. ⌜ (r ≡ set x at b) × (length r ≡ longest) ⌝ }
 {
     let mut y = x;
     y[at] = b;
@@ -29,11 +31,11 @@ pub fn with_byte(x: [u8; 66], at: usize, b: u8) -> [u8; 66]
 }
 
 // The n bytes from a place on, in a row; what stands behind them is of no account.
-pub fn in_order(y: [u8; 66], from: usize, n: usize) -> [u8; 66]
-    requires { ⌜ (from < 66) × (n ≤ 66) ⌝ }
+pub fn in_order(y: [u8; LONGEST], from: usize, n: usize) -> [u8; LONGEST]
+    requires { ⌜ (from < longest) × (n ≤ longest) ⌝ }
     ensures { λ r. ⌜ take n r ≡ take n (oldestFirst from y) ⌝ }
 {
-    let mut z = [0u8; 66];
+    let mut z = [0u8; LONGEST];
     let mut i = 0;
     while i < n {
         z[i] = y[wrap(from + i)];

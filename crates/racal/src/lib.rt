@@ -1,6 +1,5 @@
 // The RACAL string, form 5: `XGUyymmddhhmmss<CR>`.
 ghost use mathlib.Core.Path.{_≡_};
-ghost use Prim.Native.Nat.{_≤_};
 ghost use lib.ListN.{length};
 ghost use Rattle.forms.specs.Form.{Wrote, carries, readBy, valuesBy};
 ghost use Rattle.forms.specs.Needs.{hasAll};
@@ -8,13 +7,9 @@ ghost use Rattle.forms.specs.Places.{shape};
 ghost use Rattle.forms.specs.Serial.{racal, racalRow};
 ghost use Rattle.forms.specs.Spelled.{recordFrom};
 ghost use Rattle.forms.specs.Told.{told};
+ghost use Rattle.layout.specs.Admitted.{Storable};
 ghost use Rattle.layout.specs.Stores.{stores};
-use record::Channel;
 use record::Date;
-use record::Flag;
-use record::Fraction;
-use record::Offset;
-use record::Position;
 use record::Record;
 use record::answer::Reading;
 use record::answer::Writing;
@@ -25,15 +20,16 @@ fn has_shape(s: &[u8]) -> bool
     ensures { λ r. ⌜ r ≡ shape racalRow 0 (now (s .entry)) ⌝ }
 {
     layout::text_at(s, 0, b"XGU")
-        & (layout::digits_at(s, 3, 2)
-            & (layout::digits_at(s, 5, 2)
-                & (layout::digits_at(s, 7, 2)
-                    & (layout::digits_at(s, 9, 2)
-                        & (layout::digits_at(s, 11, 2)
-                            & (layout::digits_at(s, 13, 2) & layout::text_at(s, 15, b"\r")))))))
+        & layout::digits_at(s, 3, 2)
+        & layout::digits_at(s, 5, 2)
+        & layout::digits_at(s, 7, 2)
+        & layout::digits_at(s, 9, 2)
+        & layout::digits_at(s, 11, 2)
+        & layout::digits_at(s, 13, 2)
+        & layout::text_at(s, 15, b"\r")
 }
 
-fn spelled(s: &[u8]) -> Record
+fn decode(s: &[u8]) -> Record
     requires { ⌜ length (now s) ≡ 16 ⌝ }
     ensures { λ r. ⌜ r ≡ recordFrom (carries racal) (valuesBy racal (now (s .entry))) ⌝ }
 {
@@ -46,36 +42,7 @@ fn spelled(s: &[u8]) -> Record
             month: layout::number_at(s, 5, 2),
             day: layout::number_at(s, 7, 2),
         },
-        fraction: Fraction::Absent,
-        channel: Channel::Absent,
-        sync: Flag::Absent,
-        fix: Flag::Absent,
-        utc: Flag::Absent,
-        summer: Flag::Absent,
-        change: Flag::Absent,
-        leap: Flag::Absent,
-        offset: Offset::Absent,
-        position: Position::Absent,
-        dsp: Flag::Absent,
-        lsp: Flag::Absent,
-    }
-}
-
-fn read_whole(s: &[u8]) -> Reading
-    ensures { λ r. ⌜ r ≡ readBy racal (now (s .entry)) ⌝ }
-{
-    if s.len() != 16 {
-        return Reading::Refused(Refusal::WrongLength);
-    }
-    if has_shape(s) {
-        let r = spelled(s);
-        if r.in_range() {
-            Reading::Read(r)
-        } else {
-            Reading::Refused(Refusal::OutOfRange)
-        }
-    } else {
-        Reading::Refused(Refusal::WrongByte)
+        ..Record::empty()
     }
 }
 
@@ -83,16 +50,19 @@ fn read_whole(s: &[u8]) -> Reading
 pub fn read(s: &[u8]) -> Reading
     ensures { λ r. ⌜ r ≡ readBy racal (now (s .entry)) ⌝ }
 {
-    if s.len() == 16 {
-        if s[0] == b'X' {
-            return read_whole(s);
-        }
+    if s.len() != 16 {
+        return Reading::Refused(Refusal::WrongLength);
+    }
+    if s[0] != b'X' {
         return Reading::Refused(Refusal::WrongByte);
     }
-    Reading::Refused(Refusal::WrongLength)
+    if !has_shape(s) {
+        return Reading::Refused(Refusal::WrongByte);
+    }
+    layout::validate(decode(s))
 }
 
-fn has_fields(r: Record) -> bool
+fn has_carried(r: Record) -> bool
     ensures { λ b. ⌜ b ≡ hasAll (carries racal) r ⌝ }
 {
     let date = r.date;
@@ -100,7 +70,7 @@ fn has_fields(r: Record) -> bool
 }
 
 fn store(r: Record, out: &mut [u8])
-    requires { ⌜ 16 ≤ length (now out) ⌝ }
+    requires { ⌜ Storable racal r (length (now out)) ⌝ }
     ensures { λ _. ⌜ now (out .exit) ≡ stores racalRow 0 (told r) (now (out .entry)) ⌝ }
 {
     let date = r.date;
@@ -119,17 +89,12 @@ fn store(r: Record, out: &mut [u8])
 pub fn write(r: Record, out: &mut [u8]) -> Writing
     ensures { λ w. ⌜ Wrote racal r w (now (out .entry)) (now (out .exit)) ⌝ }
 {
-    if r.is_good() {
-        if has_fields(r) {
-            if out.len() < 16 {
-                return Writing::Refused(Refusal::ShortBuffer);
-            }
+    let answer = layout::admitted(r.is_good(), has_carried(r), true, 16, out.len());
+    match answer {
+        Writing::Written(n) => {
             store(r, out);
-            Writing::Written(16)
-        } else {
-            Writing::Refused(Refusal::MissingField)
+            Writing::Written(n)
         }
-    } else {
-        Writing::Refused(Refusal::BadRecord)
+        Writing::Refused(x) => Writing::Refused(x),
     }
 }

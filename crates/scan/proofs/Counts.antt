@@ -6,7 +6,7 @@ use native.Mathlib.Omega.{arith}
 use borrow.Author.Tests.{le-ltb, lt-ltb}
 use lib.Dec.{ltb}
 use Rattle.choice.specs.Pick.{pick}
-use Rattle.scan.specs.Closing.{placesOf, placesUpTo}
+use Rattle.scan.specs.Summary.{placesOf, placesUpTo}
 
 -- behind k - 1 digits, `rest` tells the others
 pub record Counting (n rest k : ℕ) : Type 0 where

@@ -3,13 +3,13 @@ use mathlib.Core.List.{List, [], _∷_}
 use mathlib.Core.Path.{_≡_, refl, sym, _∙_}
 use Prim.Native.Nat.{ℕ, _+_, _<_}
 use native.Mathlib.Omega.{arith}
-use borrow.Author.Tests.{ne-eqb}
 use Rattle.record.specs.declared.Record.{Record}
 use Rattle.record.specs.declared.refusal.Refusal.{Refusal}
 use Rattle.forms.specs.Valid.{lengthOf, validOf}
 use Rattle.stream.specs.Search.{FirstAt, Found, firstFrom, found, goOn, notFound, searchFrom}
 use Rattle.stream.proofs.Repeated.{search-goes-on}
 use Rattle.stream.proofs.Search.{found-first}
+use Rattle.serial.proofs.Lengths.{some-serial}
 use Rattle.serial.proofs.Strings.{serial-strings}
 use Rattle.search.specs.Answer.{searchOf, searched}
 use Rattle.search.specs.declared.Finding.{Finding}
@@ -39,7 +39,7 @@ module _ (form : ℕ) (known : lengthOf form ≡ 0 → ⊥) (s : List ℕ) (star
 
   is-searched : searched (firstFrom (lengthOf form) (validOf form) s start) ≡ a
   unfolding searchOf
-  is-searched = sym (answer ∙ rw (ne-eqb (lengthOf form) 0 known))
+  is-searched = sym (answer ∙ rw (some-serial form known))
 
   module _ (p : ℕ) (r : Record) (e : a ≡ finding.Found p r) where
     first : firstFrom (lengthOf form) (validOf form) s start ≡ found p r

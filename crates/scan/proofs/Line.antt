@@ -12,11 +12,11 @@ use Rattle.choice.specs.Pick.{pick}
 use Rattle.choice.proofs.Tests.{pick-le}
 use Rattle.spelling.specs.Bytes.{decimal, digitOf, text}
 use Rattle.spelling.proofs.Base.{spelled-length}
+use Rattle.spelling.proofs.Stores.{sets-append}
 use Rattle.record.specs.declared.answer.Writing.{Writing}
 use Rattle.record.specs.declared.answer.Writing.the-variants as writing
 use Rattle.record.specs.declared.refusal.Refusal.the-variants as refusal
-use Rattle.scan.specs.Closing.{Ended, endAnswer, endLine, placesOf, placesUpTo}
-use Rattle.scan.proofs.Lent.{sets-append}
+use Rattle.scan.specs.Summary.{Ended, endAnswer, endLine, placesOf, placesUpTo}
 
 -- one part in front of the rest
 front : (v w o : List ℕ) (i j : ℕ) → i + length v ≡ j → sets o i (v ++ w) ≡ sets (sets o i v) j w
@@ -45,14 +45,16 @@ module _ (bytes telegrams b t : ℕ) (eb : b ≡ placesOf bytes) (et : t ≡ pla
 
   line-long : length (endLine bytes telegrams) ≡ 10 + b + 11 + t + 1
   line-long =
-      omega (arith, ap length line-is, parts-long (text "end bytes=") (decimal b bytes) (text " telegrams=") (decimal t telegrams) 10, digits-long b bytes, digits-long t telegrams)
+      let parts = parts-long (text "end bytes=") (decimal b bytes) (text " telegrams=") (decimal t telegrams) 10 in
+      omega (arith, ap length line-is, parts, digits-long b bytes, digits-long t telegrams)
 
   pub no-room : length o ≤ 10 + b + 11 + t → Ended bytes telegrams (writing.Refused refusal.ShortBuffer) o o
   unfolding endAnswer
   no-room l = record { answer = rw (lt-leb (length (endLine bytes telegrams)) (length o) (omega (arith, line-long))); left = refl }
 
   pub ended : 10 + b + 11 + t < length o → (after : List ℕ)
-      → after ≡ set (sets (sets (sets (sets o 0 (text "end bytes=")) 10 (decimal b bytes)) (10 + b) (text " telegrams=")) (10 + b + 11) (decimal t telegrams)) (10 + b + 11 + t) 10
+      → after ≡ set (sets (sets (sets (sets o 0 (text "end bytes=")) 10 (decimal b bytes)) (10 + b) (text " telegrams=")) (10 + b + 11)
+      (decimal t telegrams)) (10 + b + 11 + t) 10
       → Ended bytes telegrams (writing.Written (10 + b + 11 + t + 1)) o after
   unfolding endAnswer
   ended l after h =
@@ -71,9 +73,10 @@ written : (t : Bool) (size n : ℕ) → writing.Written n ≡ pick t (writing.Wr
 written true size n h = cc
 written false size n h = absurd (let z : _≡_ {A = ℕ} 0 1 = cc in omega arith)
 
-pub ended-inside : (bytes telegrams : ℕ) (w : Writing) (before after : List ℕ) → Ended bytes telegrams w before after → (n : ℕ) → w ≡ writing.Written n → n ≤ length after
+pub ended-inside : {bytes telegrams : ℕ} {w : Writing} {before after : List ℕ} → Ended bytes telegrams w before after
+    → {n : ℕ} → w ≡ writing.Written n → n ≤ length after
 unfolding endAnswer
-ended-inside bytes telegrams w before after h n e =
+ended-inside {bytes} {telegrams} {w} {before} {after} h {n} e =
     let line = endLine bytes telegrams in
     let size = written (leb (length line) (length before)) (length line) n (sym e ∙ h .answer) in
     let left : after ≡ line ++ drop n before = h .left ∙ rw e in

@@ -13,7 +13,7 @@ use lib.Seq.{drop-at, drop-paste, getD-drop, length-take-le, paste, paste-suc, t
 use Rattle.forms.specs.Valid.{lengthOf}
 use Rattle.stream.specs.Window.{lastOf}
 use Rattle.stream.proofs.Window.{length-last}
-use Rattle.scan.specs.Seam.{Carried, carriedOf}
+use Rattle.scan.specs.Carry.{Carried, carriedOf}
 
 module _ (b : List ℕ) (from k : ℕ) (inside : from + k ≤ length b) (i : ℕ) (l : i < k) where
   room : i < length (drop from b)
@@ -77,6 +77,6 @@ module _ (form end : ℕ) (b : List ℕ) where
         record { count = rw last-bytes (sym long); left = h ∙ rw (z, last-bytes) }
 
 -- fewer bytes are carried than a string has
-pub carried-short : (form end k : ℕ) (b after : List ℕ) → 0 < lengthOf form → Carried form end k b after → k < lengthOf form
+pub carried-short : {form end k : ℕ} {b after : List ℕ} → 0 < lengthOf form → Carried form end k b after → k < lengthOf form
 unfolding carriedOf
-carried-short form end k b after l h = omega (arith, h .count, length-last (lengthOf form - 1) (take end b))
+carried-short {form} {end} {k} {b} {after} l h = omega (arith, h .count, length-last (lengthOf form - 1) (take end b))

@@ -1,5 +1,5 @@
 pub mod Request
-pub mod Seam
+pub mod Carry
 pub mod Printed
 pub mod Stream
-pub mod Closing
+pub mod Summary

@@ -2,22 +2,23 @@
 use mathlib.Core.List.{List, [], _∷_, _++_}
 use mathlib.Core.Path.{_≡_}
 use Prim.Native.Nat.{ℕ, _/_}
-use lib.Dec.{eqb, leb}
+use lib.Dec.{leb}
 use lib.ListN.{length, drop}
 use Rattle.choice.specs.Pick.{pick}
 use Rattle.record.specs.declared.Record.{Record}
 use Rattle.record.specs.declared.refusal.Refusal.the-variants as refusal
-use Rattle.forms.specs.Block.{blockOf}
+use Rattle.forms.specs.Block.{blockOf, firstEdition}
 use Rattle.forms.specs.Form.{bytesBy}
+use Rattle.forms.specs.Forms.{isSerial}
 use Rattle.forms.specs.Told.{told}
 use Rattle.forms.specs.Valid.{lengthOf, validOf}
 use Rattle.stream.specs.Search.{searchFrom}
-use Rattle.scan.specs.declared.telling.Telling.{Telling}
-use Rattle.scan.specs.declared.telling.Telling.the-variants as telling
+use Rattle.scan.specs.declared.records.Report.{Report}
+use Rattle.scan.specs.declared.records.Report.the-variants as records
 
 -- "a block and an empty line"
 unfoldable pub paragraph : Record → List ℕ
-paragraph r = bytesBy (blockOf r) (told r) ++ (10 ∷ [])
+paragraph r = bytesBy (blockOf firstEdition r) (told r) ++ (10 ∷ [])
 
 unfoldable pub printed : List Record → List ℕ
 printed [] = []
@@ -28,18 +29,19 @@ abbrev pub recordsIn : ℕ → List ℕ → List Record
 recordsIn form s = searchFrom (lengthOf form) (validOf form) s 0
 
 -- refusal 1, then 10 where the buffer has fewer than 11 bytes for each byte of the piece
-unfoldable pub tellAnswer : ℕ → List ℕ → ℕ → Telling
-tellAnswer form s room =
-    pick (eqb (lengthOf form) 0) (telling.Refused refusal.UnknownForm)
-    (pick (leb (length s) (room / 11)) (telling.Told (length (recordsIn form s)) (length (printed (recordsIn form s))))
-    (telling.Refused refusal.ShortBuffer))
+unfoldable pub recordsAnswer : ℕ → List ℕ → ℕ → Report
+recordsAnswer form s room =
+    pick (isSerial form)
+    (pick (leb (length s) (room / 11)) (records.Written (length (recordsIn form s)) (length (printed (recordsIn form s))))
+    (records.Refused refusal.ShortBuffer))
+    (records.Refused refusal.UnknownForm)
 
 -- a refusal "changes no byte", and behind what is told "the bytes .. stay"
-abbrev pub leftTold : Telling → List ℕ → List ℕ → List ℕ
-leftTold (telling.Told count k) bytes out = bytes ++ drop k out
-leftTold (telling.Refused x) bytes out = out
+abbrev pub leftRecords : Report → List ℕ → List ℕ → List ℕ
+leftRecords (records.Written count k) bytes out = bytes ++ drop k out
+leftRecords (records.Refused x) bytes out = out
 
--- what the contract of `tell` says: its answer, and every byte of the buffer afterwards
-pub record ToldAll (form : ℕ) (s : List ℕ) (t : Telling) (before after : List ℕ) : Type 0 where
-  pub answer : t ≡ tellAnswer form s (length before)
-  pub left : after ≡ leftTold t (printed (recordsIn form s)) before
+-- what the contract of `write_records` says: its answer, and every byte of the buffer afterwards
+pub record WroteRecords (form : ℕ) (s : List ℕ) (t : Report) (before after : List ℕ) : Type 0 where
+  pub answer : t ≡ recordsAnswer form s (length before)
+  pub left : after ≡ leftRecords t (printed (recordsIn form s)) before

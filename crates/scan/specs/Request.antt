@@ -2,11 +2,13 @@
 use mathlib.Core.Bool.{_&&_}
 use mathlib.Core.List.{List}
 use Prim.Native.Nat.{ℕ, _-_}
-use lib.Dec.{eqb, leb}
+use lib.Dec.{eqb}
 use lib.ListN.{length, getD}
 use Rattle.choice.specs.Pick.{pick}
+use Rattle.spelling.specs.Bytes.{digitValue, isDigit}
+use Rattle.forms.specs.Forms.{isSerial}
 
 -- the form that a line asks for, 0 where it is "bad or missing"
 unfoldable pub formOf : List ℕ → ℕ
 formOf line =
-    pick (eqb (length line) 2 && (eqb (getD line 1 0) 10 && (leb 49 (getD line 0 0) && leb (getD line 0 0) 55))) (getD line 0 0 - 48) 0
+    pick (eqb (length line) 2 && (eqb (getD line 1 0) 10 && (isDigit (getD line 0 0) && isSerial (digitValue (getD line 0 0))))) (digitValue (getD line 0 0)) 0

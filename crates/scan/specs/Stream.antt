@@ -2,7 +2,7 @@
 use mathlib.Core.List.{List, [], _∷_, _++_}
 use Prim.Native.Nat.{ℕ}
 use Rattle.scan.specs.Printed.{printed, recordsIn}
-use Rattle.scan.specs.Seam.{carriedOf}
+use Rattle.scan.specs.Carry.{carriedOf}
 
 unfoldable pub printedPieces : ℕ → List ℕ → List (List ℕ) → List ℕ
 printedPieces form carried [] = []

@@ -1,12 +1,12 @@
 // A stream scanned piece by piece: what its first line asks for, what a piece tells, what is
 // carried to the next one, and the last line.
-mod closing;
+mod carry;
+mod records;
 mod request;
-mod seam;
-mod telling;
+mod summary;
 
-pub use closing::write_end;
+pub use carry::carry_over;
+pub use records::Report;
+pub use records::write_records;
 pub use request::form_of;
-pub use seam::carry;
-pub use telling::Telling;
-pub use telling::tell;
+pub use summary::write_end;

@@ -2,7 +2,7 @@
 ghost use mathlib.Core.Path.{_≡_};
 ghost use Rattle.scan.specs.Request.{formOf};
 
-// The form that a first line asks for, 0 where it is a bad one: one byte `1`..`7` and LF.
+// The form that a first line asks for, 0 where it is a bad one: one digit that is the number of a serial form, and LF.
 pub fn form_of(line: &[u8]) -> u32
     ensures { λ form. ⌜ form ≡ formOf (now (line .entry)) ⌝ }
 {
@@ -13,11 +13,15 @@ pub fn form_of(line: &[u8]) -> u32
         return 0;
     }
     let b = line[0];
-    if b < b'1' {
+    if b < b'0' {
         return 0;
     }
-    if b'7' < b {
+    if b'9' < b {
         return 0;
     }
-    (b - b'0') as u32
+    let form = (b - b'0') as u32;
+    if serial::length_of(form) == 0 {
+        return 0;
+    }
+    form
 }

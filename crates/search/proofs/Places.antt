@@ -5,17 +5,18 @@ use mathlib.Core.Path.{_≡_, sym, _∙_, ap}
 use Prim.Native.Nat.{ℕ, _+_, _-_, _≤_, _<_}
 use native.Mathlib.Nat.{add-zero}
 use native.Mathlib.Omega.{arith}
-use borrow.Author.Tests.{eq-eqb, ne-eqb}
 use lib.ListN.{length, getD, drop, length-drop, length-take}
 use lib.Seq.{getD-drop, getD-take}
 use Rattle.record.specs.declared.Record.{Record}
 use Rattle.record.specs.declared.answer.Reading.{Reading}
 use Rattle.record.specs.declared.answer.Reading.the-variants as reading
+use Rattle.record.specs.declared.refusal.Refusal.{Refusal}
 use Rattle.record.specs.declared.refusal.Refusal.the-variants as refusal
 use Rattle.forms.specs.Valid.{endOf, lengthOf, recordIn, startOf, validOf}
 use Rattle.stream.specs.Search.{firstFrom}
 use Rattle.stream.specs.Window.{window}
 use Rattle.stream.proofs.Search.{next-place, no-place}
+use Rattle.serial.proofs.Lengths.{not-serial, some-serial}
 use Rattle.serial.proofs.Strings.{wrong-end, wrong-start}
 use Rattle.search.specs.Answer.{searchOf, searched}
 use Rattle.search.specs.declared.Finding.the-variants as finding
@@ -34,28 +35,31 @@ module _ (form n : ℕ) (s : List ℕ) (p : ℕ) (inside : p + n ≤ length s) (
       let e : p + (n - 1) ≡ p + n - 1 = omega arith in
       sym (wrong-end form (window n s p) (λ q. h (ap (λ (x : ℕ). getD s x 0) (sym e) ∙ sym (at-byte (n - 1) (omega arith)) ∙ (rw l at q))))
 
-module _ (form n : ℕ) (is : n ≡ lengthOf form) (s : List ℕ) (start : ℕ) where
-  pub no-form : n ≡ 0 → finding.Refused refusal.UnknownForm ≡ searchOf form s start
+pub no-form : (form : ℕ) (s : List ℕ) (start : ℕ) → lengthOf form ≡ 0 → finding.Refused refusal.UnknownForm ≡ searchOf form s start
+unfolding searchOf
+no-form form s start e = rw (not-serial form e)
+
+-- nothing is found from the start to place p
+pub record Reached (form n : ℕ) (s : List ℕ) (start p : ℕ) : Type 0 where
+  pub is : n ≡ lengthOf form
+  pub some-byte : n ≡ 0 → ⊥
+  pub same : firstFrom n (validOf form) s start ≡ firstFrom n (validOf form) s p
+
+module _ {form n : ℕ} {s : List ℕ} {start p : ℕ} (i : Reached form n s start p) where
+  from-here : searched (firstFrom n (validOf form) s p) ≡ searchOf form s start
   unfolding searchOf
-  no-form e = let z : lengthOf form ≡ 0 = sym is ∙ e in rw (eq-eqb (lengthOf form) 0 z)
+  from-here = rw (some-serial form (λ e. i .some-byte (i .is ∙ e)), ← i .is) (ap searched (sym (i .same)))
 
-  module _ (some-byte : n ≡ 0 → ⊥) (p : ℕ) (same : firstFrom n (validOf form) s start ≡ firstFrom n (validOf form) s p) where
-    from-here : searched (firstFrom n (validOf form) s p) ≡ searchOf form s start
-    unfolding searchOf
-    from-here =
-        let z : lengthOf form ≡ 0 → ⊥ = λ e. some-byte (is ∙ e) in
-        rw (ne-eqb (lengthOf form) 0 z, ← is) (ap searched (sym same))
+  pub no-more : length s < p + n → finding.Refused refusal.NotFound ≡ searchOf form s start
+  no-more l = ap searched (sym (no-place n (validOf form) s p l)) ∙ from-here
 
-    pub no-more : length s < p + n → finding.Refused refusal.NotFound ≡ searchOf form s start
-    no-more l = ap searched (sym (no-place n (validOf form) s p l)) ∙ from-here
+  module _ (inside : p + n ≤ length s) {a : Reading} (is-read : recordIn a ≡ validOf form (window n s p)) where
+    pub here : {r : Record} → a ≡ reading.Read r → finding.Found p r ≡ searchOf form s start
+    here {r} e =
+        let v : validOf form (window n s p) ≡ some r = sym is-read ∙ ap recordIn e in
+        rw (next-place n (validOf form) s p inside, v) at from-here
 
-    module _ (inside : p + n ≤ length s) (a : Reading) (is-read : recordIn a ≡ validOf form (window n s p)) where
-      pub here : (r : Record) → a ≡ reading.Read r → finding.Found p r ≡ searchOf form s start
-      here r e =
-          let v : validOf form (window n s p) ≡ some r = sym is-read ∙ ap recordIn e in
-          rw (next-place n (validOf form) s p inside, v) at from-here
-
-      pub go-on : recordIn a ≡ none → firstFrom n (validOf form) s start ≡ firstFrom n (validOf form) s (p + 1)
-      go-on e =
-          let v : validOf form (window n s p) ≡ none = sym is-read ∙ e in
-          same ∙ rw (next-place n (validOf form) s p inside, v)
+    pub go-on : {x : Refusal} → a ≡ reading.Refused x → Reached form n s start (p + 1)
+    go-on e =
+        let v : validOf form (window n s p) ≡ none = sym is-read ∙ ap recordIn e in
+        record { is = i .is; some-byte = i .some-byte; same = i .same ∙ rw (next-place n (validOf form) s p inside, v) }

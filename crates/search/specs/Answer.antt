@@ -1,12 +1,12 @@
 -- What a search answers, and the paper's number and values for each answer.
 use mathlib.Core.List.{List}
 use Prim.Native.Nat.{ℕ}
-use lib.Dec.{eqb}
 use Rattle.choice.specs.Pick.{pick}
 use Rattle.record.specs.declared.Record.{Record}
 use Rattle.record.specs.declared.refusal.Refusal.the-variants as refusal
 use Rattle.record.specs.Record.{emptyRecord}
 use Rattle.record.specs.Refusal.{numberOf}
+use Rattle.forms.specs.Forms.{isSerial}
 use Rattle.forms.specs.Valid.{lengthOf, validOf}
 use Rattle.stream.specs.Search.{Found, firstFrom, found, notFound}
 use Rattle.search.specs.declared.Finding.{Finding}
@@ -20,7 +20,7 @@ searched notFound = finding.Refused refusal.NotFound
 -- "Search answers the first place, its record, or 1 or else 12, tested in that order"
 unfoldable pub searchOf : ℕ → List ℕ → ℕ → Finding
 searchOf form s start =
-    pick (eqb (lengthOf form) 0) (finding.Refused refusal.UnknownForm) (searched (firstFrom (lengthOf form) (validOf form) s start))
+    pick (isSerial form) (searched (firstFrom (lengthOf form) (validOf form) s start)) (finding.Refused refusal.UnknownForm)
 
 -- the number of a refusal, 0 for none
 abbrev pub findingNumber : Finding → ℕ

@@ -65,7 +65,8 @@ fn read_at(form: u32, s: &[u8], p: usize, n: usize, first: u8, last: u8) -> Read
 pub fn search(form: u32, s: &[u8], start: usize) -> Finding
     ensures { λ r. ⌜ r ≡ searchOf form (now (s .entry)) start ⌝ }
 {
-    let n = serial::length_of(form);
+    let shape = serial::shape_of(form);
+    let n = shape.length;
     if n == 0 {
         return Finding::Refused(Refusal::UnknownForm);
     }
@@ -73,8 +74,8 @@ pub fn search(form: u32, s: &[u8], start: usize) -> Finding
         return Finding::Refused(Refusal::NotFound);
     }
     let end = s.len() - n;
-    let first = serial::start_of(form);
-    let last = serial::end_of(form);
+    let first = shape.start;
+    let last = shape.end;
     let mut p = start;
     while p <= end {
         let reading = read_at(form, s, p, n, first, last);

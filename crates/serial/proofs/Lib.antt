@@ -1,2 +1,3 @@
-pub mod Strings
 pub mod Numbers
+pub mod Lengths
+pub mod Strings

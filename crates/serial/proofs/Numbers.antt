@@ -1,5 +1,5 @@
--- What is said of a serial form is said of its number; any other number has no form.
-use mathlib.Core.List.{List}
+-- What is said of a form is said of its number; a number that is none of a list's has no form there.
+use mathlib.Core.List.{List, [], _∷_}
 use mathlib.Core.Path.{_≡_, refl}
 use Prim.Native.Nat.{ℕ}
 use borrow.Author.Tests.{ne-eqb}
@@ -8,30 +8,27 @@ use Rattle.record.specs.declared.answer.Writing.{Writing}
 use Rattle.record.specs.declared.answer.Writing.the-variants as writing
 use Rattle.record.specs.declared.refusal.Refusal.the-variants as refusal
 use Rattle.forms.specs.Form.{Form, Wrote}
-use Rattle.forms.specs.Forms.{Layout, WroteAs, layoutOf, leftAs, serialForms, sized, unknown, writeAs}
+use Rattle.forms.specs.Forms.{Layout, Numbered, WroteAs, layoutOf, leftAs, sized, unknown, writeAs}
 
--- none of seven numbers, as the last arm of a match is told
-abbrev NoneOf : ℕ → Type 0
-NoneOf n =
-    (((((((Unit {0} × (n ≡ 1 → ⊥)) × (n ≡ 2 → ⊥)) × (n ≡ 3 → ⊥)) × (n ≡ 4 → ⊥)) × (n ≡ 5 → ⊥)) × (n ≡ 6 → ⊥)) × (n ≡ 7 → ⊥))
+-- none of a list's numbers, as the last arm of a match over them is told
+abbrev pub NoneOf : Type 0 → List Numbered → ℕ → Type 0
+NoneOf T [] n = T
+NoneOf T (e ∷ es) n = NoneOf (T × (n ≡ e .number → ⊥)) es n
 
-pub no-form : (n : ℕ) → NoneOf n → layoutOf serialForms n ≡ unknown
+none-of : (T : Type 0) (es : List Numbered) (n : ℕ) → NoneOf T es n → T × (layoutOf es n ≡ unknown)
 unfolding layoutOf
-no-form n h =
-    simp (
-      ne-eqb n 1 (h .0 .0 .0 .0 .0 .0 .1),
-      ne-eqb n 2 (h .0 .0 .0 .0 .0 .1),
-      ne-eqb n 3 (h .0 .0 .0 .0 .1),
-      ne-eqb n 4 (h .0 .0 .0 .1),
-      ne-eqb n 5 (h .0 .0 .1),
-      ne-eqb n 6 (h .0 .1),
-      ne-eqb n 7 (h .1),
-    )
+none-of T [] n h = (h, refl)
+none-of T (e ∷ es) n h =
+    let i = none-of (T × (n ≡ e .number → ⊥)) es n h in
+    (i .0 .0, rw (ne-eqb n (e .number) (i .0 .1)) (i .1))
 
-module _ (l : Layout) (r : Record) (before : List ℕ) where
-  pub wrote-sized : (d : Form) → l ≡ sized d → (w : Writing) (after : List ℕ) → Wrote d r w before after → WroteAs l r w before after
+pub no-form : (es : List Numbered) (n : ℕ) → NoneOf (Unit {0}) es n → layoutOf es n ≡ unknown
+no-form es n h = none-of (Unit {0}) es n h .1
+
+module _ {l : Layout} {r : Record} {before : List ℕ} where
+  pub wrote-sized : {d : Form} {w : Writing} {after : List ℕ} → l ≡ sized d → Wrote d r w before after → WroteAs l r w before after
   unfolding writeAs leftAs
-  wrote-sized d e w after h = rw e record { answer = h .answer; left = h .left }
+  wrote-sized e h = rw e record { answer = h .answer; left = h .left }
 
   pub wrote-nothing : l ≡ unknown → WroteAs l r (writing.Refused refusal.UnknownForm) before before
   unfolding writeAs leftAs

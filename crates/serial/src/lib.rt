@@ -1,58 +1,49 @@
-// The serial strings by the numbers of their forms, 1 to 7.
+// The serial strings by the numbers of their forms: an arm in each function for each line of `serialForms`, in its order.
 ghost use mathlib.Core.Path.{_≡_};
 ghost use Rattle.forms.specs.Forms.{WroteAs, layoutOf, readAs, serialForms};
-ghost use Rattle.forms.specs.Valid.{endOf, lengthOf, startOf};
+ghost use Rattle.forms.specs.Valid.{lengthOf};
+ghost use Rattle.serial.specs.Shape.{shapeOf, shaped};
 use record::Record;
 use record::answer::Reading;
 use record::answer::Writing;
 use record::refusal::Refusal;
 
-// The bytes of a form's strings, 0 where there is no such form.
+// The bytes of a form's strings, the byte that they start with and have nowhere else, and the one that they end with.
+pub struct Shape {
+    pub length: usize,
+    pub start: u8,
+    pub end: u8,
+}
+
+// No string of a serial form is longer.
+pub const LONGEST: usize = 66;
+
+fn shaped(length: usize, start: u8, end: u8) -> Shape
+    ensures { λ s. ⌜ s ≡ shaped length start end ⌝ }
+{
+    Shape { length, start, end }
+}
+
+// All 0 where there is no such form.
+pub fn shape_of(form: u32) -> Shape
+    ensures { λ s. ⌜ s ≡ shapeOf form ⌝ }
+{
+    match form {
+        1 => shaped(32, 2, 3),
+        2 => shaped(31, b'C', b'\n'),
+        3 => shaped(66, 2, 3),
+        4 => shaped(32, b'>', b'\r'),
+        5 => shaped(16, b'X', b'\r'),
+        6 => shaped(16, 1, b'\n'),
+        7 => shaped(24, b'T', b'\n'),
+        _ => shaped(0, 0, 0),
+    }
+}
+
 pub fn length_of(form: u32) -> usize
     ensures { λ n. ⌜ n ≡ lengthOf form ⌝ }
 {
-    match form {
-        1 => 32,
-        2 => 31,
-        3 => 66,
-        4 => 32,
-        5 => 16,
-        6 => 16,
-        7 => 24,
-        _ => 0,
-    }
-}
-
-// The byte that they start with, and have nowhere else.
-pub fn start_of(form: u32) -> u8
-    ensures { λ b. ⌜ b ≡ startOf form ⌝ }
-{
-    match form {
-        1 => 2,
-        2 => b'C',
-        3 => 2,
-        4 => b'>',
-        5 => b'X',
-        6 => 1,
-        7 => b'T',
-        _ => 0,
-    }
-}
-
-// The byte that they end with.
-pub fn end_of(form: u32) -> u8
-    ensures { λ b. ⌜ b ≡ endOf form ⌝ }
-{
-    match form {
-        1 => 3,
-        2 => b'\n',
-        3 => 3,
-        4 => b'\r',
-        5 => b'\r',
-        6 => b'\n',
-        7 => b'\n',
-        _ => 0,
-    }
+    shape_of(form).length
 }
 
 pub fn read(form: u32, s: &[u8]) -> Reading

@@ -8,20 +8,22 @@ use lib.ListN.{length, take, drop}
 use lib.Seq.{take-at}
 use Rattle.choice.proofs.Tests.{both}
 use Rattle.record.specs.declared.Record.{Record}
-use Rattle.record.specs.Record.{isGood}
 use Rattle.spelling.specs.Bytes.{xorFrom}
-use Rattle.forms.specs.Form.{bytesBy, sumOf}
+use Rattle.forms.specs.Checksum.{checksumOf}
+use Rattle.forms.specs.Form.{bytesBy}
+use Rattle.forms.specs.Forms.{layoutOf}
 use Rattle.forms.specs.Places.{Row, bytesOf, placed, rowWidth}
-use Rattle.forms.specs.Serial.{spa, spaRow}
+use Rattle.forms.specs.Serial.{spa, spaRow, spaSum}
 use Rattle.forms.specs.Slots.{Values}
 use Rattle.forms.specs.Told.{told}
+use Rattle.forms.proofs.Instances.{serial-sound}
 use Rattle.forms.proofs.Rows.{bytes-length, roomy, roomyRow, soundRow}
-use Rattle.forms.proofs.Sound.{sound-form}
+use Rattle.forms.proofs.Sound.{isSoundForm, sound-form}
 use Rattle.forms.proofs.WriteRead.{written, written-roomy}
+use Rattle.layout.specs.Admitted.{Storable}
 use Rattle.layout.specs.Stores.{stores}
 use Rattle.layout.proofs.Stored.{stores-form, stores-laid}
-use Rattle.spa.specs.Rows.{endRow, endStored, frontRow}
-use Rattle.spa.proofs.Form.{sound, worded-of}
+use Rattle.spa.specs.Stored.{endStored}
 
 -- the bytes of a row in two pieces
 bytes-append : (ps qs : Row) (v : Values) → bytesOf (ps ++ qs) v ≡ bytesOf ps v ++ bytesOf qs v
@@ -45,15 +47,26 @@ front-bytes ps qs v o s m h =
     ap (take (rowWidth ps)) (stores-laid ps 0 v o s m (omega arith)) ∙ take-at (bytesOf ps v) _ (rowWidth ps) l
     ∙ sym (ap (take (rowWidth ps)) (bytes-append ps qs v) ∙ take-at (bytesOf ps v) (bytesOf qs v) (rowWidth ps) l)
 
-module _ (r : Record) (g : isGood r ≡ true) (o : List ℕ) (h : 32 ≤ length o) where
+-- "all 29 bytes before it", and what stands behind them
+abbrev frontRow : Row
+frontRow = take 15 spaRow
+
+abbrev endRow : Row
+endRow = drop 15 spaRow
+
+module _ (r : Record) (o : List ℕ) (p : Storable spa r (length o)) where
+  sound : isSoundForm spa ≡ true
+  unfolding layoutOf
+  sound = serial-sound 4 spa refl
+
   front-roomy : roomyRow frontRow (told r) ≡ true
   unfolding roomyRow
-  front-roomy = roomy-front frontRow endRow (written spa r) (written-roomy spa (sound-form spa sound) r g (worded-of r))
+  front-roomy = roomy-front frontRow endRow (written spa r) (written-roomy spa (sound-form spa sound) r (p .good) (p .expressible))
 
-  front-sum : sumOf (spa .sum) (stores frontRow 0 (told r) o) ≡ sumOf (spa .sum) (bytesOf spaRow (told r))
+  front-sum : checksumOf spaSum (stores frontRow 0 (told r) o) ≡ checksumOf spaSum (bytesOf spaRow (told r))
   unfolding rowWidth soundRow
-  front-sum = ap (xorFrom 0) (front-bytes frontRow endRow (told r) o refl front-roomy (omega arith))
+  front-sum = ap (xorFrom 0) (front-bytes frontRow endRow (told r) o refl front-roomy (omega (arith, p .fits)))
 
   pub end-stored : endStored (stores frontRow 0 (told r) o) ≡ bytesBy spa (told r) ++ drop 32 o
   unfolding stores
-  end-stored = rw front-sum (stores-form spa sound r g (worded-of r) o h)
+  end-stored = rw front-sum (stores-form spa sound r (p .good) (p .expressible) o (p .fits))

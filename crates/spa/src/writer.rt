@@ -1,23 +1,21 @@
 // Writing a string.
 ghost use mathlib.Core.Path.{_≡_};
-ghost use mathlib.Core.Bool.{true};
 ghost use mathlib.Core.List.{_++_};
 ghost use Prim.Native.Nat.{_≤_};
-ghost use lib.ListN.{length, drop};
-ghost use Rattle.record.specs.Record.{isGood};
+ghost use lib.ListN.{length, take, drop};
 ghost use Rattle.forms.specs.Form.{Wrote, bytesBy, carries};
 ghost use Rattle.forms.specs.Needs.{hasAll};
-ghost use Rattle.forms.specs.Serial.{spa};
+ghost use Rattle.forms.specs.Serial.{spa, spaRow};
 ghost use Rattle.forms.specs.Told.{told};
+ghost use Rattle.layout.specs.Admitted.{Storable};
 ghost use Rattle.layout.specs.Stores.{stores};
-ghost use Rattle.spa.specs.Rows.{dateRow, endStored, fractionRow, frontRow, timeRow};
+ghost use Rattle.spa.specs.Stored.{endStored};
 use crate::sum::sum_of;
 use record::Record;
 use record::answer::Writing;
-use record::refusal::Refusal;
 
 // Ten-millionths do not serve: a fraction is never converted.
-fn has_fields(r: Record) -> bool
+fn has_carried(r: Record) -> bool
     ensures { λ b. ⌜ b ≡ hasAll (carries spa) r ⌝ }
 {
     let date = r.date;
@@ -28,7 +26,7 @@ fn has_fields(r: Record) -> bool
 // `>900WD:yy-mm-dd `
 fn store_date(r: Record, out: &mut [u8])
     requires { ⌜ 32 ≤ length (now out) ⌝ }
-    ensures { λ _. ⌜ now (out .exit) ≡ stores dateRow 0 (told r) (now (out .entry)) ⌝ }
+    ensures { λ _. ⌜ now (out .exit) ≡ stores (take 7 spaRow) 0 (told r) (now (out .entry)) ⌝ }
 {
     let date = r.date;
     spelling::put_bytes(out, 0, b">900WD:");
@@ -43,24 +41,17 @@ fn store_date(r: Record, out: &mut [u8])
     spelling::put_byte(out, 15, b' ');
 }
 
-// `hh.mm;ss`
+// `hh.mm;ss.fff:`
 fn store_time(r: Record, out: &mut [u8])
     requires { ⌜ 32 ≤ length (now out) ⌝ }
-    ensures { λ _. ⌜ now (out .exit) ≡ stores timeRow 16 (told r) (now (out .entry)) ⌝ }
+    ensures { λ _. ⌜ now (out .exit) ≡ stores (drop 7 (take 15 spaRow)) 16 (told r) (now (out .entry)) ⌝ }
 {
+    let fraction = r.fraction;
     spelling::put_digits(out, 16, 2, r.hour);
     spelling::put_byte(out, 18, b'.');
     spelling::put_digits(out, 19, 2, r.minute);
     spelling::put_byte(out, 21, b';');
     spelling::put_digits(out, 22, 2, r.second);
-}
-
-// `.fff:`
-fn store_fraction(r: Record, out: &mut [u8])
-    requires { ⌜ 32 ≤ length (now out) ⌝ }
-    ensures { λ _. ⌜ now (out .exit) ≡ stores fractionRow 24 (told r) (now (out .entry)) ⌝ }
-{
-    let fraction = r.fraction;
     spelling::put_byte(out, 24, b'.');
     spelling::put_digits(out, 25, 3, fields::thousandths_of(fraction));
     spelling::put_byte(out, 28, b':');
@@ -69,11 +60,10 @@ fn store_fraction(r: Record, out: &mut [u8])
 // All that the sum is taken over.
 fn store_front(r: Record, out: &mut [u8])
     requires { ⌜ 32 ≤ length (now out) ⌝ }
-    ensures { λ _. ⌜ now (out .exit) ≡ stores frontRow 0 (told r) (now (out .entry)) ⌝ }
+    ensures { λ _. ⌜ now (out .exit) ≡ stores (take 15 spaRow) 0 (told r) (now (out .entry)) ⌝ }
 {
     store_date(r, out);
     store_time(r, out);
-    store_fraction(r, out);
 }
 
 // `cc<CR>`, behind the bytes that stand there
@@ -87,7 +77,7 @@ fn store_end(out: &mut [u8])
 }
 
 fn store(r: Record, out: &mut [u8])
-    requires { ⌜ (32 ≤ length (now out)) × (isGood r ≡ true) ⌝ }
+    requires { ⌜ Storable spa r (length (now out)) ⌝ }
     ensures { λ _. ⌜ now (out .exit) ≡ bytesBy spa (told r) ++ drop 32 (now (out .entry)) ⌝ }
 {
     store_front(r, out);
@@ -97,17 +87,12 @@ fn store(r: Record, out: &mut [u8])
 pub fn write(r: Record, out: &mut [u8]) -> Writing
     ensures { λ w. ⌜ Wrote spa r w (now (out .entry)) (now (out .exit)) ⌝ }
 {
-    if r.is_good() {
-        if has_fields(r) {
-            if out.len() < 32 {
-                return Writing::Refused(Refusal::ShortBuffer);
-            }
+    let answer = layout::admitted(r.is_good(), has_carried(r), true, 32, out.len());
+    match answer {
+        Writing::Written(n) => {
             store(r, out);
-            Writing::Written(32)
-        } else {
-            Writing::Refused(Refusal::MissingField)
+            Writing::Written(n)
         }
-    } else {
-        Writing::Refused(Refusal::BadRecord)
+        Writing::Refused(x) => Writing::Refused(x),
     }
 }

@@ -95,11 +95,13 @@ space-number x = omega arith
 space-both : (x : List ℕ) (w : ℕ) → length x ≡ suc w → Padded x → Padded (32 ∷ x)
 space-both x w l h =
     let n = space-number x in
-    let e : decimal (suc (length x)) (number (32 ∷ x)) ≡ 48 ∷ decimal (length x) (number x) = ap (decimal (suc (length x))) n ∙ high-zero (length x) (number x) (h .1) in
-    let f : blanked (48 ∷ decimal (length x) (number x)) ≡ 32 ∷ blanked (decimal (length x) (number x)) = blank-zero _ w (spelled-length 10 digitOf (length x) (number x) ∙ l) in
+    let d : List ℕ = decimal (length x) (number x) in
+    let e : decimal (suc (length x)) (number (32 ∷ x)) ≡ 48 ∷ d = ap (decimal (suc (length x))) n ∙ high-zero (length x) (number x) (h .1) in
+    let f : blanked (48 ∷ d) ≡ 32 ∷ blanked d = blank-zero d w (spelled-length 10 digitOf (length x) (number x) ∙ l) in
     (ap blanked e ∙ f ∙ ap (λ (y : List ℕ). 32 ∷ y) (h .0), rw (n, pow-suc) (omega (arith, h .1)))
 
-padded-both : (bs : List ℕ) → arePadded bs ≡ true → Padded bs
+-- a padded part spells a number that its digits hold, and is the spelling of it
+pub padded-both : (bs : List ℕ) → arePadded bs ≡ true → Padded bs
 unfolding arePadded
 padded-both [] h = absurd (false≢true h)
 padded-both (b ∷ []) h =
@@ -115,9 +117,3 @@ padded-both (b ∷ c ∷ bs) h = go (eqb b 32) refl h (padded-both (c ∷ bs))
         let q = both (leb 49 b && leb b 57) (areDigits (c ∷ bs)) g in
         let r = both (leb 49 b) (leb b 57) (q .0) in
         digits-padded b c bs (leb-true 49 b (r .0), leb-true b 57 (r .1)) (q .1)
-
-pub padded-number : (bs : List ℕ) → arePadded bs ≡ true → blanked (decimal (length bs) (number bs)) ≡ bs
-padded-number bs h = padded-both bs h .0
-
-pub padded-lt : (bs : List ℕ) → arePadded bs ≡ true → number bs < 10 ^ length bs
-padded-lt bs h = padded-both bs h .1

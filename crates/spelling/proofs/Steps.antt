@@ -1,46 +1,40 @@
--- One turn of a loop that reads bytes: over any test and any base.
-use mathlib.Core.Path.{_≡_, refl, _∙_, ap}
+-- One turn of a loop that reads bytes: what is said of the bytes from place i on is said of byte i and of those behind it.
+use mathlib.Core.Path.{_≡_, refl, sym, _∙_, ap}
 use mathlib.Core.Bool.{Bool, true, false, _&&_, and-false}
 use mathlib.Core.List.{List, [], _∷_, _++_}
-use Prim.Native.Nat.{ℕ, zero, suc, _+_, _-_, _*_, _^_, _≤_, _<_}
-use native.Mathlib.Nat.{add-assoc, add-mul, mul-assoc, mul-one, mul-le-mul-right, pow-suc, pow-zero}
+use Prim.Native.Nat.{ℕ, suc, _+_, _-_, _*_, _^_, _≤_, _<_}
+use native.Mathlib.Nat.{add-assoc, add-mul, mul-assoc, mul-le-mul-left, mul-le-mul-right, mul-one, pow-le-pow-right, pow-suc, pow-zero}
 use native.Mathlib.Numerals.{add-one}
 use native.Mathlib.Omega.{arith}
 use borrow.Author.Tests.{eq-eqb, ne-eqb}
-use lib.Bits.{bitXor}
-use lib.Dec.{eqb, leb}
+use lib.Dec.{eqb}
 use lib.ListN.{length, getD, take, drop, drop-of-length-le, length-append, length-drop}
 use lib.Seq.{drop-cons, take-all, take-suc}
-use Rattle.choice.specs.Pick.{oneIf, pick}
-use Rattle.choice.proofs.Tests.{pick-le}
-use Rattle.spelling.specs.Bytes.{allAre, areDigits, arePadded, bitsNumber, hexValue, isDigit, numberIn, ones, sameBytes, xorFrom}
+use Rattle.choice.specs.Pick.{pick}
+use Rattle.spelling.specs.Bytes.{allAre, areDigits, arePadded, isDigit, isWithin, numberIn, sameBytes}
+
+module _ {A : Type 0} (f : List ℕ → A) (s : List ℕ) (i : ℕ) where
+  pub next : i < length s → f (drop i s) ≡ f (getD s i 0 ∷ drop (i + 1) s)
+  next h = rw (add-one, drop-cons s i 0)
+
+  pub none-left : length s ≤ i → f (drop i s) ≡ f []
+  none-left h = ap f (drop-of-length-le s h)
 
 -- a test of every byte: the rest decides
 module _ (t : ℕ → Bool) (s : List ℕ) (i : ℕ) (rest : allAre t s ≡ allAre t (drop i s)) where
-  at-head : i < length s → allAre t s ≡ (t (getD s i 0) && allAre t (drop (i + 1) s))
-  unfolding allAre
-  at-head h = rest ∙ rw (add-one, drop-cons s i 0)
-
   pub all-step : i < length s → t (getD s i 0) ≡ true → allAre t s ≡ allAre t (drop (i + 1) s)
-  all-step h e = at-head h ∙ simp e
-
-  pub all-fails : i < length s → t (getD s i 0) ≡ false → allAre t s ≡ false
-  all-fails h e = at-head h ∙ simp e
-
-  pub all-end : length s ≤ i → allAre t s ≡ true
   unfolding allAre
-  all-end h = rest ∙ simp (drop-of-length-le s h)
+  all-step h e = rest ∙ next (allAre t) s i h ∙ simp e
+
+  pub all-fails : i < length s → t (getD s i 0) ≡ false → false ≡ allAre t s
+  unfolding allAre
+  all-fails h e = sym (rest ∙ next (allAre t) s i h ∙ simp e)
+
+  pub all-end : length s ≤ i → true ≡ allAre t s
+  unfolding allAre
+  all-end h = sym (rest ∙ none-left (allAre t) s i h)
 
 -- two byte strings compared
-
-pub same-step : (s t : List ℕ) (i : ℕ) → i < length s → i < length t
-    → sameBytes (drop i s) (drop i t) ≡ (eqb (getD s i 0) (getD t i 0) && sameBytes (drop (i + 1) s) (drop (i + 1) t))
-unfolding sameBytes
-same-step s t i h l = rw (add-one, drop-cons s i 0 h, drop-cons t i 0 l)
-
-pub same-end : (s t : List ℕ) (i : ℕ) → length s ≤ i → length t ≤ i → sameBytes (drop i s) (drop i t) ≡ true
-unfolding sameBytes
-same-end s t i h l = simp (drop-of-length-le s h, drop-of-length-le t l)
 
 pub lengths-differ : (s t : List ℕ) → (length s ≡ length t → ⊥) → sameBytes s t ≡ false
 unfolding sameBytes
@@ -48,6 +42,22 @@ lengths-differ [] [] h = absurd (h refl)
 lengths-differ [] (y ∷ ys) h = refl
 lengths-differ (x ∷ xs) [] h = refl
 lengths-differ (x ∷ xs) (y ∷ ys) h = simp (lengths-differ xs ys (λ e. h (ap suc e)), and-false)
+
+module _ (s t : List ℕ) (i : ℕ) (rest : sameBytes s t ≡ sameBytes (drop i s) (drop i t)) where
+  module _ (h : i < length s) (l : i < length t) where
+    at-head : sameBytes s t ≡ (eqb (getD s i 0) (getD t i 0) && sameBytes (drop (i + 1) s) (drop (i + 1) t))
+    unfolding sameBytes
+    at-head = rest ∙ next (λ x. sameBytes x (drop i t)) s i h ∙ next (sameBytes (getD s i 0 ∷ drop (i + 1) s)) t i l
+
+    pub same-step : getD s i 0 ≡ getD t i 0 → sameBytes s t ≡ sameBytes (drop (i + 1) s) (drop (i + 1) t)
+    same-step e = at-head ∙ simp (eq-eqb _ _ e)
+
+    pub same-fails : (getD s i 0 ≡ getD t i 0 → ⊥) → false ≡ sameBytes s t
+    same-fails e = sym (at-head ∙ simp (ne-eqb _ _ e))
+
+  pub same-end : length s ≤ i → length t ≤ i → true ≡ sameBytes s t
+  unfolding sameBytes
+  same-end h l = sym (rest ∙ simp (drop-of-length-le s h, drop-of-length-le t l))
 
 -- a number by its last digit
 
@@ -61,14 +71,8 @@ number-snoc base value (x ∷ xs) b =
     let l : length (xs ++ (b ∷ [])) ≡ suc (length xs) = length-append xs (b ∷ []) ∙ omega arith in
     simp (l, pow-suc, number-snoc base value xs b) (regroup (value x) (base ^ length xs) base (numberIn base value xs) (value b))
 
-module _ (base : ℕ) (value : ℕ → ℕ) (s : List ℕ) where
-  number-step : (i n : ℕ) → i < length s → n ≡ numberIn base value (take i s) → n * base + value (getD s i 0) ≡ numberIn base value (take (i + 1) s)
-  number-step i n h e = rw (add-one, take-suc s i 0 h, number-snoc, e)
+-- room for the digits still to come, whatever the bytes are: k stands for the largest value over the largest digit
 
-  pub number-end : (i : ℕ) → length s ≤ i → numberIn base value (take i s) ≡ numberIn base value s
-  number-end i h = ap (numberIn base value) (take-all i s h)
-
--- room for one more digit, whatever the bytes are: k stands for the largest value over the largest digit
 pub room-step : (k base n v i : ℕ) → n + k ≤ k * base ^ i → v + k ≤ k * base → n * base + v + k ≤ k * base ^ (i + 1)
 room-step k base n v i h l =
     let e : (n + k) * base ≤ k * base ^ i * base = mul-le-mul-right base h in
@@ -76,73 +80,57 @@ room-step k base n v i h l =
     let g : k * base ^ i * base ≡ k * (base ^ i * base) = mul-assoc k (base ^ i) base in
     rw (add-one, pow-suc) (omega arith)
 
-pub hex-room : (b : ℕ) → b < 256 → hexValue b ≤ 207
-hex-room b h = pick-le (leb b 57) (b - 48) (b - 55) 207 (omega arith) (omega arith)
+pub room-most : (k base n i m : ℕ) → 0 < base → n + k ≤ k * base ^ i → i ≤ m → n + k ≤ k * base ^ m
+room-most k base n i m p h l = omega (arith, mul-le-mul-left k (pow-le-pow-right {n = base} p {i = i} {j = m} l))
 
--- one turn of a loop that reads digits
-pub read-step : (k base : ℕ) (value : ℕ → ℕ) (s : List ℕ) (i n v : ℕ) → i < length s
-    → (n + k ≤ k * base ^ i) × (n ≡ numberIn base value (take i s)) → v + k ≤ k * base → v ≡ value (getD s i 0)
-    → (n * base + v + k ≤ k * base ^ (i + 1)) × (n * base + v ≡ numberIn base value (take (i + 1) s))
-read-step k base value s i n v h inv l e =
-    (room-step k base n v i (inv .0) l, ap (λ (x : ℕ). n * base + x) e ∙ number-step base value s i n h (inv .1))
+-- the bytes in front of i spell n
+pub record Spelt (k base : ℕ) (value : ℕ → ℕ) (s : List ℕ) (n i : ℕ) : Type 0 where
+  pub inside : i ≤ length s
+  pub room : n + k ≤ k * base ^ i
+  pub number : n ≡ numberIn base value (take i s)
+
+module _ (k base : ℕ) (value : ℕ → ℕ) (s : List ℕ) where
+  pub spelt-none : Spelt k base value s 0 0
+  unfolding numberIn
+  spelt-none = record { inside = omega arith; room = rw (pow-zero, mul-one) (omega arith); number = refl }
+
+  module _ (n i : ℕ) (p : Spelt k base value s n i) where
+    pub spelt-next : (v : ℕ) → i < length s → v + k ≤ k * base → v ≡ value (getD s i 0) → Spelt k base value s (n * base + v) (i + 1)
+    spelt-next v h l e =
+        record {
+          inside = omega arith;
+          room = room-step k base n v i (p .room) l;
+          number = ap (λ (x : ℕ). n * base + x) e ∙ rw (add-one, take-suc s i 0 h, number-snoc, p .number);
+        }
+
+    pub spelt-all : length s ≤ i → (n ≡ numberIn base value s) × (n + k ≤ k * base ^ length s)
+    spelt-all h =
+        let e : i ≡ length s = omega (arith, p .inside) in
+        (p .number ∙ ap (numberIn base value) (take-all i s h), rw e at (p .room))
 
 -- digits behind spaces
 
-padded-next : (b : ℕ) (x : List ℕ) → 0 < length x → arePadded (b ∷ x) ≡ pick (eqb b 32) (arePadded x) ((leb 49 b && leb b 57) && areDigits x)
+padded-next : (b : ℕ) (x : List ℕ) → 0 < length x → arePadded (b ∷ x) ≡ pick (eqb b 32) (arePadded x) (isWithin 49 57 b && areDigits x)
 unfolding arePadded
 padded-next b [] h = absurd (omega (arith, h))
 padded-next b (c ∷ x) h = refl
 
-module _ (s : List ℕ) (i : ℕ) where
-  padded-at : i + 1 < length s
-      → arePadded (drop i s) ≡ pick (eqb (getD s i 0) 32) (arePadded (drop (i + 1) s)) ((leb 49 (getD s i 0) && leb (getD s i 0) 57) && areDigits (drop (i + 1) s))
-  padded-at h =
-      let d : drop i s ≡ getD s i 0 ∷ drop (i + 1) s = drop-cons s i 0 (omega arith) ∙ simp add-one in
-      ap arePadded d ∙ padded-next (getD s i 0) (drop (i + 1) s) (omega (arith, length-drop (i + 1) s))
+module _ (s : List ℕ) (i : ℕ) (rest : arePadded s ≡ arePadded (drop i s)) where
+  module _ (h : i + 1 < length s) where
+    padded-at : arePadded s ≡ pick (eqb (getD s i 0) 32) (arePadded (drop (i + 1) s)) (isWithin 49 57 (getD s i 0) && areDigits (drop (i + 1) s))
+    padded-at = rest ∙ next arePadded s i (omega arith) ∙ padded-next (getD s i 0) (drop (i + 1) s) (omega (arith, length-drop (i + 1) s))
 
-  pub padded-space : i + 1 < length s → getD s i 0 ≡ 32 → arePadded (drop i s) ≡ arePadded (drop (i + 1) s)
-  padded-space h e = padded-at h ∙ simp (eq-eqb (getD s i 0) 32 e)
+    pub padded-space : getD s i 0 ≡ 32 → arePadded s ≡ arePadded (drop (i + 1) s)
+    padded-space e = padded-at ∙ simp (eq-eqb (getD s i 0) 32 e)
 
-  pub padded-digits : i + 1 < length s → (getD s i 0 ≡ 32 → ⊥)
-      → arePadded (drop i s) ≡ ((leb 49 (getD s i 0) && leb (getD s i 0) 57) && areDigits (drop (i + 1) s))
-  padded-digits h e = padded-at h ∙ simp (ne-eqb (getD s i 0) 32 e)
+    pub padded-digits : (getD s i 0 ≡ 32 → ⊥) → (isWithin 49 57 (getD s i 0) && areDigits (drop (i + 1) s)) ≡ arePadded s
+    padded-digits e = sym (padded-at ∙ simp (ne-eqb (getD s i 0) 32 e))
 
-  pub padded-last : i + 1 ≡ length s → arePadded (drop i s) ≡ isDigit (getD s i 0)
+  pub padded-last : i + 1 ≡ length s → isDigit (getD s i 0) ≡ arePadded s
   unfolding arePadded
-  padded-last h =
-      let n : drop (suc i) s ≡ [] = drop-of-length-le s {i = suc i} (omega arith) in
-      simp (drop-cons s i 0 (omega arith), n)
+  padded-last h = sym (rest ∙ next arePadded s i (omega arith) ∙ simp (drop-of-length-le s {i = i + 1} (omega arith)))
 
 pub padded-none : (s : List ℕ) → length s ≡ 0 → arePadded s ≡ false
 unfolding arePadded
 padded-none [] h = refl
 padded-none (b ∷ s) h = absurd (omega (arith, h))
-
--- bits from the last one, ones, and the exclusive-or
-
-pub bits-step : (s : List ℕ) (i : ℕ) → 0 < i → i ≤ length s → bitsNumber (drop i s) * 2 + getD s (i - 1) 0 ≡ bitsNumber (drop (i - 1) s)
-unfolding bitsNumber
-bits-step s zero h l = absurd (omega arith)
-bits-step s (suc i) h l =
-    let e : suc i - 1 ≡ i = omega arith in
-    simp (e, drop-cons s i 0 l) (omega arith)
-
-pub bits-end : (s : List ℕ) (i : ℕ) → length s ≤ i → bitsNumber (drop i s) ≡ 0
-unfolding bitsNumber
-bits-end s i h = simp (drop-of-length-le s h)
-
-pub ones-step : (s : List ℕ) (i : ℕ) → i < length s → ones (drop i s) ≡ oneIf (eqb (getD s i 0) 1) + ones (drop (i + 1) s)
-unfolding ones
-ones-step s i h = rw (add-one, drop-cons s i 0)
-
-pub ones-end : (s : List ℕ) (i : ℕ) → length s ≤ i → ones (drop i s) ≡ 0
-unfolding ones
-ones-end s i h = simp (drop-of-length-le s h)
-
-pub xor-step : (s : List ℕ) (acc i : ℕ) → i < length s → xorFrom acc (drop i s) ≡ xorFrom (bitXor acc (getD s i 0)) (drop (i + 1) s)
-unfolding xorFrom
-xor-step s acc i h = rw (add-one, drop-cons s i 0)
-
-pub xor-end : (s : List ℕ) (acc i : ℕ) → length s ≤ i → xorFrom acc (drop i s) ≡ acc
-unfolding xorFrom
-xor-end s acc i h = simp (drop-of-length-le s h)

@@ -37,10 +37,14 @@ unfoldable pub spelledIn : ℕ → (ℕ → ℕ) → ℕ → ℕ → List ℕ
 spelledIn base digit zero n = []
 spelledIn base digit (suc w) n = digit (n / base ^ w % base) ∷ spelledIn base digit w (n % base ^ w)
 
+-- the byte lies between two bytes
+abbrev pub isWithin : ℕ → ℕ → ℕ → Bool
+isWithin low high b = leb low b && leb b high
+
 -- decimal digits; a space has the value 0
 
 abbrev pub isDigit : ℕ → Bool
-isDigit b = leb 48 b && leb b 57
+isDigit = isWithin 48 57
 
 abbrev pub digitValue : ℕ → ℕ
 digitValue b = b - 48
@@ -63,7 +67,7 @@ decimal = spelledIn 10 digitOf
 -- hexadecimal digits, "0-9, A-F"
 
 abbrev pub isHex : ℕ → Bool
-isHex b = isDigit b || (leb 65 b && leb b 70)
+isHex b = isDigit b || isWithin 65 70 b
 
 abbrev pub hexValue : ℕ → ℕ
 hexValue b = pick (leb b 57) (b - 48) (b - 55)
@@ -100,7 +104,7 @@ arePadded (b ∷ c ∷ bs) = pick (eqb b 32) (arePadded (c ∷ bs)) ((leb 49 b &
 -- elements 0 and 1, "low bit first"
 
 abbrev pub isBit : ℕ → Bool
-isBit b = leb b 1
+isBit = isWithin 0 1
 
 -- the number that bits spell
 unfoldable pub bitsNumber : List ℕ → ℕ

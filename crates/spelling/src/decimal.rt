@@ -3,7 +3,23 @@ ghost use mathlib.Core.Path.{_≡_};
 ghost use Prim.Native.Nat.{_+_, _*_, _^_, _≤_};
 ghost use lib.ListN.{length};
 ghost use lib.Seq.{sets};
-ghost use Rattle.spelling.specs.Bytes.{areDigits, decimal, digitValue, isDigit, number};
+ghost use Rattle.spelling.specs.Bytes.{allAre, areDigits, decimal, digitValue, isDigit, isWithin, number};
+
+// Every byte lies between two bytes.
+pub fn all_within(s: &[u8], low: u8, high: u8) -> bool
+    ensures { λ r. ⌜ r ≡ allAre (isWithin low high) (now (s .entry)) ⌝ }
+{
+    let mut i = 0;
+    while i < s.len() {
+        let b = s[i];
+        if (low <= b) & (b <= high) {
+            i += 1;
+        } else {
+            return false;
+        }
+    }
+    true
+}
 
 pub fn is_digit(b: u8) -> bool
     ensures { λ r. ⌜ r ≡ isDigit b ⌝ }
@@ -15,20 +31,12 @@ pub fn is_digit(b: u8) -> bool
 pub fn are_digits(s: &[u8]) -> bool
     ensures { λ r. ⌜ r ≡ areDigits (now (s .entry)) ⌝ }
 {
-    let mut i = 0;
-    while i < s.len() {
-        if is_digit(s[i]) {
-            i += 1;
-        } else {
-            return false;
-        }
-    }
-    true
+    all_within(s, 48, 57)
 }
 
-// A byte below the digits, as a space, has the value 0.
+// A byte below the digits, as a space, has the value 0. No byte has a value above 207.
 pub fn digit_value(b: u8) -> u32
-    ensures { λ r. ⌜ r ≡ digitValue b ⌝ }
+    ensures { λ r. ⌜ (r ≡ digitValue b) × (r ≤ 207) ⌝ }
 {
     if b < 48 { 0 } else { (b - 48) as u32 }
 }
@@ -49,6 +57,14 @@ pub fn number(s: &[u8]) -> u32
 
 // Puts the last w digits of n at a place of out.
 pub fn put_digits(out: &mut [u8], at: usize, w: usize, n: u32)
+    requires { ⌜ at + w ≤ length (now out) ⌝ }
+    ensures { λ _. ⌜ now (out .exit) ≡ sets (now (out .entry)) at (decimal w n) ⌝ }
+{
+    put_count(out, at, w, n as u64);
+}
+
+// The same for a number of 64 bits.
+pub fn put_count(out: &mut [u8], at: usize, w: usize, n: u64)
     requires { ⌜ at + w ≤ length (now out) ⌝ }
     ensures { λ _. ⌜ now (out .exit) ≡ sets (now (out .entry)) at (decimal w n) ⌝ }
 {

@@ -23,12 +23,8 @@ use Rattle.stream.proofs.Listens.{listens-by}
 use Rattle.stream.proofs.Machine.{reached, same-answers}
 use Rattle.stream.proofs.Window.{length-last, none-last}
 
--- a fresh state fits
-pub fits-fresh : (m n : ℕ) → Fits m n (fresh n)
-fits-fresh m n = record { kept-fits = omega arith; distance-fits = omega arith }
-
 module _ {R : Type 0} (m n : ℕ) (valid : List ℕ → Option R) where
-  -- and so does every state that a step leaves
+  -- refusal 11 does not name a state that a step leaves
   pub fits-next : (s : State) (b : ℕ) → Fits m n (stepNext m n valid s b)
   unfolding stepNext keptAfter
   fits-next s b =
@@ -41,12 +37,6 @@ module _ {R : Type 0} (m n : ℕ) (valid : List ℕ → Option R) where
       capped (handed r) = omega arith
       capped nothing = omega arith
       capped (refused c) = omega arith
-
-  -- "The kept bytes are always the last n-1 fed.": here the last m
-  pub step-keeps : (s : List ℕ) → stateAfter (stepNext m n valid) (fresh n) s .kept ≡ lastOf m s
-  unfolding stepNext
-  step-keeps s =
-      reached (stepNext m n valid) (λ p t. t .kept ≡ lastOf m p) (λ p t b h. rw h (kept-step m p b)) [] (fresh n) s (sym (none-last m))
 
   -- where a byte ends a valid string, the distance held before it is not under n-1
   not-under :
@@ -130,12 +120,6 @@ module _ {R : Type 0} (m n : ℕ) (valid : List ℕ → Option R) where
     -- "the distance since the last record, capped at n"
     pub step-counts : (s : List ℕ) → Since n valid s (stateAfter (stepNext m n valid) (fresh n) s .distance)
     step-counts s = after s .since
-
-    -- in every state that is reached from a fresh one, a byte is answered with what it hands out, and never with 13
-    pub step-answers :
-        (s : List ℕ) (b : ℕ)
-        → stepAnswer n valid (stateAfter (stepNext m n valid) (fresh n) s) b ≡ handedOut (heardAt n valid (s ++ (b ∷ [])) (length s + 1))
-    step-answers s b = answer-is s (stateAfter (stepNext m n valid) (fresh n) s) b (after s) ∙ rw (after s .kept-is, hit-heard m n valid room s b)
 
     -- the step over the kept bytes and the distance answers as the listener over the kept bytes alone
     pub step-hears : (s : List ℕ) → answers (stepNext m n valid) (stepAnswer n valid) (fresh n) s ≡ heardAll n valid s

@@ -21,7 +21,7 @@ use Rattle.stream.proofs.Window.{last-last, last-window, length-last, n
 -- "The kept bytes are always the last n-1 fed"
 pub kept-step : (m : ℕ) (p : List ℕ) (b : ℕ) → keptAfter m (lastOf m p) b ≡ lastOf m (p ++ (b ∷ []))
 unfolding keptAfter
-kept-step m p b = last-last m m p b (omega arith)
+kept-step m p b = last-last m m p (b ∷ []) (omega arith)
 
 pub kept-last : (m : ℕ) (s : List ℕ) → stateAfter (keptAfter m) [] s ≡ lastOf m s
 kept-last m s =
@@ -38,7 +38,7 @@ module _ {R : Type 0} (m n : ℕ) (valid : List ℕ → Option R) (room : n ≤ 
       go true e =
           let l = leb-true n (length p + 1) e in
           let long : n ≤ length (lastOf m p) + 1 = rw length-last (omega arith) in
-          rw (le-leb n _ long, last-last m n p b room, last-window n p b) (sym (heard-window n valid (p ++ (b ∷ [])) (length p + 1) l))
+          rw (le-leb n _ long, last-last m n p (b ∷ []) room, last-window n p b) (sym (heard-window n valid (p ++ (b ∷ [])) (length p + 1) l))
       go false e =
           let l = leb-false n (length p + 1) e in
           let short : length (lastOf m p) + 1 < n = rw length-last (omega arith) in

@@ -1,30 +1,22 @@
 -- Nothing is lost at the seams between the pieces of a stream, and nothing is found twice: a string that ends in a piece begins there or
 -- in the n-1 bytes in front of it, and those alone hold no whole string.
-use mathlib.Core.List.{List, [], _∷_, _++_, append-assoc, append-nil}
+use mathlib.Core.List.{List, [], _∷_, _++_, append-assoc, append-nil, flatten}
 use mathlib.Core.Option.{Option, none, some}
 use mathlib.Core.Path.{_≡_, refl, sym, _∙_, ap}
 use Prim.Native.Nat.{ℕ, zero, suc, _+_, _-_, _≤_}
 use native.Mathlib.Omega.{arith}
-use lib.ListN.{length, drop, length-append, length-drop}
-use lib.Seq.{drop-append-le, drop-drop}
+use lib.ListN.{length, drop, length-append}
+use lib.Seq.{drop-append-le}
 use Rattle.stream.specs.Answer.{handedOut, recordsOf}
 use Rattle.stream.specs.Heard.{heardAll, heardAt, heardFrom}
-use Rattle.stream.specs.Pieces.{joined, searchPieces}
+use Rattle.stream.specs.Pieces.{searchPieces}
 use Rattle.stream.specs.Search.{searchFrom, searchTimes}
 use Rattle.stream.specs.Strings.{Strings}
 use Rattle.stream.specs.Window.{lastOf}
 use Rattle.stream.proofs.Heard.{heard-short, heard-stays}
 use Rattle.stream.proofs.Records.{skip}
 use Rattle.stream.proofs.Repeated.{search-finds, search-from}
-use Rattle.stream.proofs.Window.{none-last}
-
--- the last bytes of a piece behind the bytes carried are those of all bytes so far
-pub last-joined : (m : ℕ) (s t : List ℕ) → lastOf m (lastOf m s ++ t) ≡ lastOf m (s ++ t)
-unfolding lastOf
-last-joined m s t =
-    rw (← drop-append-le (length s - m) s t (omega arith), drop-drop, length-drop, length-append)
-    (let e : length s - m + (length s + length t - (length s - m) - m) ≡ length s + length t - m = omega arith in
-    rw e)
+use Rattle.stream.proofs.Window.{last-last, none-last}
 
 module _ {R : Type 0} (n : ℕ) (valid : List ℕ → Option R) where
   -- the records of c bytes and of the d bytes behind them
@@ -76,14 +68,14 @@ module _ {R : Type 0} (n : ℕ) (valid : List ℕ → Option R) where
         ∙ rw (length-append, split (a ++ p) (length a) (length p) 1, stays a p (length a) 1 (omega arith), ends-in-piece a p, search-from n valid law a 0)
 
     behind : (ps : List (List ℕ)) (a : List ℕ)
-        → searchFrom n valid (a ++ joined ps) 0 ≡ searchFrom n valid a 0 ++ searchPieces n valid (lastOf (n - 1) a) ps
-    unfolding joined searchPieces
+        → searchFrom n valid (a ++ flatten ps) 0 ≡ searchFrom n valid a 0 ++ searchPieces n valid (lastOf (n - 1) a) ps
+    unfolding flatten searchPieces
     behind [] a = rw (append-nil a, append-nil (searchFrom n valid a 0))
     behind (p ∷ ps) a =
-        rw (← append-assoc a p (joined ps), behind ps (a ++ p), seam a p, append-assoc, last-joined (n - 1) a p)
+        rw (← append-assoc a p (flatten ps), behind ps (a ++ p), seam a p, append-assoc, last-last (n - 1) (n - 1) a p (omega arith))
 
     -- the records found piece by piece are those of the whole stream
-    pub in-pieces : (ps : List (List ℕ)) → searchPieces n valid [] ps ≡ searchFrom n valid (joined ps) 0
+    pub in-pieces : (ps : List (List ℕ)) → searchPieces n valid [] ps ≡ searchFrom n valid (flatten ps) 0
     in-pieces ps =
         let none-before : searchFrom n valid [] 0 ≡ [] = unfold searchFrom searchTimes in refl in
         sym (behind ps [] ∙ rw (none-before, none-last (n - 1)))

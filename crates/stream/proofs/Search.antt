@@ -1,14 +1,11 @@
 -- A search finds the first place, and what it does not find is nowhere at or after the start.
-use mathlib.Core.Bool.{Bool, true, false}
 use mathlib.Core.List.{List}
 use mathlib.Core.Option.{Option, none, some}
-use mathlib.Core.Path.{_≡_, refl, _∙_}
+use mathlib.Core.Path.{_≡_, refl}
 use Prim.Native.Nat.{ℕ, zero, suc, _+_, _-_, _≤_, _<_}
 use native.Mathlib.Omega.{arith}
-use borrow.Author.Tests.{ltb-false, ltb-true}
-use lib.Dec.{ltb}
 use lib.ListN.{length, length-drop, length-take}
-use Rattle.stream.specs.Search.{FirstAt, Found, firstAmong, firstFrom, found, placeOr, notFound}
+use Rattle.stream.specs.Search.{FirstAt, firstAmong, firstFrom, found, placeOr, notFound}
 use Rattle.stream.specs.Strings.{Strings}
 use Rattle.stream.specs.Window.{window}
 
@@ -97,42 +94,3 @@ module _ {R : Type 0} (n : ℕ) (valid : List ℕ → Option R) where
             let at : start + (p - start) ≡ p = omega arith in
             rw at at (g (p - start) (omega arith))
         go (some r) e (one-there i q f m v g) = absurd (let y : _≡_ {A = ℕ} 0 1 = cc in omega arith)
-
-    -- and where there is none, none is found
-    pub none-found : (s : List ℕ) (start : ℕ) → ((p : ℕ) → start ≤ p → valid (window n s p) ≡ none) → firstFrom n valid s start ≡ notFound
-    unfolding firstFrom
-    none-found s start h = go (scanned s (length s + 1 - (start + n)) start)
-      where
-        go : Scanned s (length s + 1 - (start + n)) start → firstAmong n valid s (length s + 1 - (start + n)) start ≡ notFound
-        go (none-there f g) = f
-        go (one-there i q f l v g) =
-            let z = h (start + i) (omega arith) in
-            absurd (let y : _≡_ {A = ℕ} 0 1 = cc in omega arith)
-
-    -- the first place is the one found
-    pub first-found : (s : List ℕ) (start p : ℕ) (r : R) → FirstAt n valid s start p r → firstFrom n valid s start ≡ found p r
-    first-found s start p r c = go (firstFrom n valid s start) refl
-      where
-        one-first : (q : ℕ) (x : R) → FirstAt n valid s start q x → (t u : Bool) → ltb p q ≡ t → ltb q p ≡ u → found q x ≡ found p r
-        one-first q x d true u e f =
-            let z = d .none-before p (c .from-start) (ltb-true p q e) in
-            let y = c .there in
-            absurd (let w : _≡_ {A = ℕ} 0 1 = cc in omega arith)
-        one-first q x d false true e f =
-            let z = c .none-before q (d .from-start) (ltb-true q p f) in
-            let y = d .there in
-            absurd (let w : _≡_ {A = ℕ} 0 1 = cc in omega arith)
-        one-first q x d false false e f =
-            let l = ltb-false p q e in
-            let m = ltb-false q p f in
-            let same : q ≡ p = omega arith in
-            let y = c .there in
-            let z : valid (window n s p) ≡ some x = rw same at (d .there) in
-            cc
-
-        go : (f : Found R) → firstFrom n valid s start ≡ f → firstFrom n valid s start ≡ found p r
-        go notFound e =
-            let z = not-found s start e p (c .from-start) in
-            let y = c .there in
-            absurd (let w : _≡_ {A = ℕ} 0 1 = cc in omega arith)
-        go (found q x) e = e ∙ one-first q x (found-first s start q x e) (ltb p q) (ltb q p) refl refl

@@ -11,13 +11,12 @@ pub length-last : (m : ℕ) (s : List ℕ) → length (lastOf m s) ≡ min m (le
 unfolding lastOf
 length-last m s = rw length-drop (omega arith)
 
--- the last n of the last m bytes and one more are the last n of all, where n is at most m + 1
-pub last-last : (m n : ℕ) (s : List ℕ) (b : ℕ) → n ≤ m + 1 → lastOf n (lastOf m s ++ (b ∷ [])) ≡ lastOf n (s ++ (b ∷ []))
+-- the last n of the last m bytes and those behind are the last n of all, where n is at most m and as many more as stand behind
+pub last-last : (m n : ℕ) (s t : List ℕ) → n ≤ m + length t → lastOf n (lastOf m s ++ t) ≡ lastOf n (s ++ t)
 unfolding lastOf
-last-last m n s b l =
-    rw (← drop-append-le (length s - m) s (b ∷ []) (omega arith), drop-drop, length-drop, length-append)
-    (let e : length s - m + (length s + 1 - (length s - m) - n) ≡ length s + 1 - n = omega arith in
-    rw e)
+last-last m n s t l =
+    let e : length s - m + (length s + length t - (length s - m) - n) ≡ length s + length t - n = omega arith in
+    rw (← drop-append-le (length s - m) s t (omega arith), drop-drop, length-drop, length-append, e)
 
 pub none-last : (m : ℕ) → lastOf m [] ≡ []
 unfolding lastOf

@@ -5,11 +5,6 @@ use Prim.Native.Nat.{ℕ, _-_}
 use Rattle.stream.specs.Search.{searchFrom}
 use Rattle.stream.specs.Window.{lastOf}
 
--- the whole stream
-unfoldable pub joined : List (List ℕ) → List ℕ
-joined [] = []
-joined (p ∷ ps) = p ++ joined ps
-
 -- the records of all pieces, in order; `carried` stands in front of the first piece
 unfoldable pub searchPieces : {R : Type 0} → ℕ → (List ℕ → Option R) → List ℕ → List (List ℕ) → List R
 searchPieces n valid carried [] = []

@@ -1,22 +1,15 @@
 // The SYSPLEX-1 string, form 6: `<SOH>ddd:hh:mm:ssq<CR><LF>`.
 ghost use mathlib.Core.Path.{_≡_};
-ghost use mathlib.Core.Bool.{true};
-ghost use Prim.Native.Nat.{_≤_};
 ghost use lib.ListN.{length};
-ghost use Rattle.record.specs.Record.{isGood};
 ghost use Rattle.forms.specs.Form.{Wrote, carries, readBy, valuesBy};
 ghost use Rattle.forms.specs.Needs.{hasAll};
 ghost use Rattle.forms.specs.Places.{shape};
 ghost use Rattle.forms.specs.Serial.{sysplex, sysplexRow};
 ghost use Rattle.forms.specs.Spelled.{recordFrom};
 ghost use Rattle.forms.specs.Told.{told};
+ghost use Rattle.layout.specs.Admitted.{Storable};
 ghost use Rattle.layout.specs.Stores.{stores};
-use record::Channel;
 use record::Date;
-use record::Flag;
-use record::Fraction;
-use record::Offset;
-use record::Position;
 use record::Record;
 use record::answer::Reading;
 use record::answer::Writing;
@@ -27,14 +20,15 @@ fn has_shape(s: &[u8]) -> bool
     ensures { λ r. ⌜ r ≡ shape sysplexRow 0 (now (s .entry)) ⌝ }
 {
     layout::is_at(s, 0, 1)
-        & (layout::digits_at(s, 1, 3)
-            & (layout::is_at(s, 4, b':')
-                & (layout::pairs_at(s, 5, b':')
-                    & (layout::letter_at(s, 13, b'?', b' ') & layout::text_at(s, 14, b"\r\n")))))
+        & layout::digits_at(s, 1, 3)
+        & layout::is_at(s, 4, b':')
+        & layout::pairs_at(s, 5, b':')
+        & layout::letter_at(s, 13, b'?', b' ')
+        & layout::text_at(s, 14, b"\r\n")
 }
 
 // The day stays a day of year: the string tells no year.
-fn spelled(s: &[u8]) -> Record
+fn decode(s: &[u8]) -> Record
     requires { ⌜ length (now s) ≡ 16 ⌝ }
     ensures { λ r. ⌜ r ≡ recordFrom (carries sysplex) (valuesBy sysplex (now (s .entry))) ⌝ }
 {
@@ -43,36 +37,8 @@ fn spelled(s: &[u8]) -> Record
         minute: layout::number_at(s, 8, 2),
         second: layout::number_at(s, 11, 2),
         date: Date::DayOfYear(layout::number_at(s, 1, 3)),
-        fraction: Fraction::Absent,
-        channel: Channel::Absent,
         sync: layout::flag_at(s, 13, b'?'),
-        fix: Flag::Absent,
-        utc: Flag::Absent,
-        summer: Flag::Absent,
-        change: Flag::Absent,
-        leap: Flag::Absent,
-        offset: Offset::Absent,
-        position: Position::Absent,
-        dsp: Flag::Absent,
-        lsp: Flag::Absent,
-    }
-}
-
-fn read_whole(s: &[u8]) -> Reading
-    ensures { λ r. ⌜ r ≡ readBy sysplex (now (s .entry)) ⌝ }
-{
-    if s.len() != 16 {
-        return Reading::Refused(Refusal::WrongLength);
-    }
-    if has_shape(s) {
-        let r = spelled(s);
-        if r.in_range() {
-            Reading::Read(r)
-        } else {
-            Reading::Refused(Refusal::OutOfRange)
-        }
-    } else {
-        Reading::Refused(Refusal::WrongByte)
+        ..Record::empty()
     }
 }
 
@@ -80,17 +46,20 @@ fn read_whole(s: &[u8]) -> Reading
 pub fn read(s: &[u8]) -> Reading
     ensures { λ r. ⌜ r ≡ readBy sysplex (now (s .entry)) ⌝ }
 {
-    if s.len() == 16 {
-        if s[0] == 1 {
-            return read_whole(s);
-        }
+    if s.len() != 16 {
+        return Reading::Refused(Refusal::WrongLength);
+    }
+    if s[0] != 1 {
         return Reading::Refused(Refusal::WrongByte);
     }
-    Reading::Refused(Refusal::WrongLength)
+    if !has_shape(s) {
+        return Reading::Refused(Refusal::WrongByte);
+    }
+    layout::validate(decode(s))
 }
 
 // A full date serves as well as a day of year.
-fn has_fields(r: Record) -> bool
+fn has_carried(r: Record) -> bool
     ensures { λ b. ⌜ b ≡ hasAll (carries sysplex) r ⌝ }
 {
     let date = r.date;
@@ -100,7 +69,7 @@ fn has_fields(r: Record) -> bool
 
 // Of a full date the day of its year is stored.
 fn store(r: Record, out: &mut [u8])
-    requires { ⌜ (16 ≤ length (now out)) × (isGood r ≡ true) ⌝ }
+    requires { ⌜ Storable sysplex r (length (now out)) ⌝ }
     ensures { λ _. ⌜ now (out .exit) ≡ stores sysplexRow 0 (told r) (now (out .entry)) ⌝ }
 {
     let date = r.date;
@@ -109,24 +78,19 @@ fn store(r: Record, out: &mut [u8])
     spelling::put_digits(out, 1, 3, fields::ordinal_of(date));
     spelling::put_byte(out, 4, b':');
     layout::put_pairs(out, 5, b':', r.hour, r.minute, r.second);
-    layout::put_letter(out, 13, b'?', b' ', sync.is_yes());
+    layout::put_flag(out, 13, b'?', b' ', sync);
     spelling::put_bytes(out, 14, b"\r\n");
 }
 
 pub fn write(r: Record, out: &mut [u8]) -> Writing
     ensures { λ w. ⌜ Wrote sysplex r w (now (out .entry)) (now (out .exit)) ⌝ }
 {
-    if r.is_good() {
-        if has_fields(r) {
-            if out.len() < 16 {
-                return Writing::Refused(Refusal::ShortBuffer);
-            }
+    let answer = layout::admitted(r.is_good(), has_carried(r), true, 16, out.len());
+    match answer {
+        Writing::Written(n) => {
             store(r, out);
-            Writing::Written(16)
-        } else {
-            Writing::Refused(Refusal::MissingField)
+            Writing::Written(n)
         }
-    } else {
-        Writing::Refused(Refusal::BadRecord)
+        Writing::Refused(x) => Writing::Refused(x),
     }
 }

@@ -1,26 +1,29 @@
--- The forms by their numbers: the frame is 8, the block 9, and any other number is that of a serial form or of none.
+-- The forms by their numbers: those that are not serial stand behind the serial ones, and any other number is that of a serial form or of none.
 use mathlib.Core.List.{List, [], _∷_, _++_}
 use mathlib.Core.Path.{_≡_, ap}
 use Prim.Native.Nat.{ℕ}
-use borrow.Author.Tests.{ne-eqb}
 use lib.Dec.{eqb}
+use lib.ListN.{length, drop}
 use Rattle.choice.specs.Pick.{pick}
 use Rattle.record.specs.declared.Record.{Record}
 use Rattle.record.specs.declared.answer.Writing.{Writing}
-use Rattle.forms.specs.Block.{blockOf}
+use Rattle.forms.specs.Block.{blockOf, firstEdition}
 use Rattle.forms.specs.Form.{Wrote}
-use Rattle.forms.specs.Frame.{frame}
-use Rattle.forms.specs.Forms.{Layout, Numbered, WroteAs, allForms, block, layoutOf, leftAs, numbered, serialForms, sized, unknown, writeAs}
+use Rattle.forms.specs.Forms.{Layout, Numbered, WroteAs, allForms, block, layoutOf, leftAs, serialForms, unknown, writeAs}
+use Rattle.serial.proofs.Numbers.{NoneOf, no-form}
 
 layout-append : (es fs : List Numbered) (n : ℕ) → layoutOf fs n ≡ unknown → layoutOf (es ++ fs) n ≡ layoutOf es n
 unfolding layoutOf
 layout-append [] fs n h = h
 layout-append (e ∷ es) fs n h = ap (pick (eqb n (e .number)) (e .layout)) (layout-append es fs n h)
 
-pub other-form : (n : ℕ) → (n ≡ 8 → ⊥) → (n ≡ 9 → ⊥) → layoutOf allForms n ≡ layoutOf serialForms n
-unfolding layoutOf
-other-form n h k = layout-append serialForms (numbered 8 (sized frame) ∷ numbered 9 block ∷ []) n (rw (ne-eqb n 8 h, ne-eqb n 9 k))
+-- the forms that are not serial
+abbrev others : List Numbered
+others = drop (length serialForms) allForms
 
-pub wrote-block : (l : Layout) (r : Record) (w : Writing) (before after : List ℕ) → l ≡ block → Wrote (blockOf r) r w before after → WroteAs l r w before after
+pub other-form : (n : ℕ) → NoneOf (Unit {0}) others n → layoutOf allForms n ≡ layoutOf serialForms n
+other-form n h = layout-append serialForms others n (no-form others n h)
+
+pub wrote-block : {l : Layout} {r : Record} {w : Writing} {before after : List ℕ} → l ≡ block firstEdition → Wrote (blockOf firstEdition r) r w before after → WroteAs l r w before after
 unfolding writeAs leftAs
-wrote-block l r w before after e h = rw e record { answer = h .answer; left = h .left }
+wrote-block e h = rw e record { answer = h .answer; left = h .left }

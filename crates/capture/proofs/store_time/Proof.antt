@@ -1,23 +1,13 @@
 -- The stores are those of the row's piece, place by place.
-use Rattle.layout.specs.Stores.{stores}
 use borrow.Author.Needs.{needs}
+use Rattle.layout.specs.Stores.{stores}
 use Rattle.capture.proofs.store_time.Statement.{statement}
 use Rattle.capture.proofs.store_time.Tie as tie
 
-returns : tie.Need-returns
-unfolding stores
-returns c = cc
-
 pub store-time-spec : {M : Type 1} → statement M
+unfolding stores
 store-time-spec =
     tie.close
     (tie.spec
-    (λ c κs. search needs)
-    (λ c κs. search needs)
-    (λ c κs. search needs)
-    (λ c κs. search needs)
-    (λ c κs. search needs)
-    (λ c. search needs)
-    (λ c κs. search needs)
-    (λ c. search needs)
-    returns)
+    (λ c κs. search needs) (λ c κs. search needs) (λ c κs. search needs) (λ c κs. search needs) (λ c κs. search needs) (λ c. search needs)
+    (λ c κs. search needs) (λ c. search needs) (λ c. cc))

@@ -6,11 +6,10 @@ use borrow.Author.Needs.{needs}
 use Rattle.frame.proofs.sign_of.Statement.{statement}
 use Rattle.frame.proofs.sign_of.Tie as tie
 
-returns : tie.Need-returns
-returns c = sym (sym (minus-told (c .before .before .args .offset)) ∙ ap oneIf (sym (c .before .is-minus .ensures) ∙ c .if1 .taken))
-
-returns-2 : tie.Need-returns-2
-returns-2 c = sym (sym (minus-told (c .before .before .args .offset)) ∙ ap oneIf (sym (c .before .is-minus .ensures) ∙ c .if1 .left))
-
 pub sign-of-spec : {M : Type 1} → statement M
-sign-of-spec = tie.close (tie.spec (λ c κs. search needs) returns returns-2)
+sign-of-spec =
+    tie.close
+    (tie.spec
+    (λ c κs. search needs)
+    (λ c. sym (sym (minus-told (c .before .before .args .offset)) ∙ ap oneIf (sym (c .before .is-minus .ensures) ∙ c .if1 .taken)))
+    (λ c. sym (sym (minus-told (c .before .before .args .offset)) ∙ ap oneIf (sym (c .before .is-minus .ensures) ∙ c .if1 .left))))

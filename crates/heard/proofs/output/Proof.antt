@@ -8,8 +8,5 @@ use Rattle.heard.proofs.output.Tie as tie
 zeros : (n : ℕ) → n ≡ length {A = ℕ} (replicate n 0)
 zeros n = sym (length-replicate n 0)
 
-returns : tie.Need-returns
-returns c = zeros 720896
-
 pub output-spec : {M : Type 1} → statement M
-output-spec = tie.close (tie.spec returns)
+output-spec = tie.close (tie.spec (λ c. zeros 720896))

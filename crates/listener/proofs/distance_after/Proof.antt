@@ -3,21 +3,9 @@ use borrow.Author.Needs.{needs}
 use Rattle.listener.proofs.distance_after.Statement.{statement}
 use Rattle.listener.proofs.distance_after.Tie as tie
 
-returns-2 : tie.Need-returns-2
-returns-2 c = rw (c .before .enum-told2 .given .1) (c .one-more .ensures)
-
-returns-3 : tie.Need-returns-3
-returns-3 c = rw (c .before .enum-told3 .given .1) (c .one-more2 .ensures)
-
 pub distance-after-spec : {M : Type 1} → statement M
 distance-after-spec =
     tie.close
     (tie.spec
-    (λ c. search needs)
-    (λ c. search needs)
-    (λ c κs. search needs)
-    (λ c. search needs)
-    (λ c κs. search needs)
-    (λ c. search needs)
-    returns-2
-    returns-3)
+    (λ c. search needs) (λ c. search needs) (λ c κs. search needs) (λ c. search needs) (λ c κs. search needs) (λ c. search needs)
+    (λ c. rw (c .before .enum-told2 .given .1) (c .one-more .ensures)) (λ c. rw (c .before .enum-told3 .given .1) (c .one-more2 .ensures)))

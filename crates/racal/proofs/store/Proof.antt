@@ -1,24 +1,13 @@
 -- The stores are those of the row, place by place.
-use Rattle.layout.specs.Stores.{stores}
 use borrow.Author.Needs.{needs}
+use Rattle.layout.specs.Stores.{stores}
 use Rattle.racal.proofs.store.Statement.{statement}
 use Rattle.racal.proofs.store.Tie as tie
 
-returns : tie.Need-returns
-unfolding stores
-returns c = cc
-
 pub store-spec : {M : Type 1} → statement M
+unfolding stores
 store-spec =
     tie.close
     (tie.spec
-    (λ c. search needs)
-    (λ c κs. search needs)
-    (λ c κs. search needs)
-    (λ c κs. search needs)
-    (λ c κs. search needs)
-    (λ c κs. search needs)
-    (λ c κs. search needs)
-    (λ c κs. search needs)
-    (λ c. search needs)
-    returns)
+    (λ c. search needs) (λ c κs. search needs) (λ c κs. search needs) (λ c κs. search needs) (λ c κs. search needs) (λ c κs. search needs)
+    (λ c κs. search needs) (λ c κs. search needs) (λ c. search needs) (λ c. cc))

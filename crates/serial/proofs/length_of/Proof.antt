@@ -1,42 +1,9 @@
--- Each number has its form's length, computed from the form's row; any other number has no form.
-use mathlib.Core.Path.{sym, ap}
-use Rattle.forms.specs.Forms.{layoutOf}
-use Rattle.forms.specs.Valid.{lengthAs, lengthOf}
-use Rattle.serial.proofs.Numbers.{no-form}
+-- The length is that of the form's shape.
+use mathlib.Core.Path.{ap}
+use borrow.Author.Needs.{needs}
+use Rattle.serial.specs.declared.Shape.{Shape}
 use Rattle.serial.proofs.length_of.Statement.{statement}
 use Rattle.serial.proofs.length_of.Tie as tie
 
-returns : tie.Need-returns
-unfolding lengthOf layoutOf
-returns c = sym (ap lengthOf (c .match .keys1))
-
-returns-2 : tie.Need-returns-2
-unfolding lengthOf layoutOf
-returns-2 c = sym (ap lengthOf (c .match .keys2))
-
-returns-3 : tie.Need-returns-3
-unfolding lengthOf layoutOf
-returns-3 c = sym (ap lengthOf (c .match .keys3))
-
-returns-4 : tie.Need-returns-4
-unfolding lengthOf layoutOf
-returns-4 c = sym (ap lengthOf (c .match .keys4))
-
-returns-5 : tie.Need-returns-5
-unfolding lengthOf layoutOf
-returns-5 c = sym (ap lengthOf (c .match .keys5))
-
-returns-6 : tie.Need-returns-6
-unfolding lengthOf layoutOf
-returns-6 c = sym (ap lengthOf (c .match .keys6))
-
-returns-7 : tie.Need-returns-7
-unfolding lengthOf layoutOf
-returns-7 c = sym (ap lengthOf (c .match .keys7))
-
-returns-8 : tie.Need-returns-8
-unfolding lengthOf
-returns-8 c = sym (ap lengthAs (no-form (c .before .args .form) (c .match .rest)))
-
 pub length-of-spec : {M : Type 1} → statement M
-length-of-spec = tie.close (tie.spec returns returns-2 returns-3 returns-4 returns-5 returns-6 returns-7 returns-8)
+length-of-spec = tie.close (tie.spec (λ c κs. search needs) (λ c. ap (λ (s : Shape). s .length) (c .shape-of .ensures)))

@@ -1,110 +1,57 @@
--- Each group is read from the end of the one before it onward; all lines fit and fill the bytes where the block is judged.
-use mathlib.Core.Path.{sym, _∙_, ap}
-use Rattle.record.specs.declared.Record.{Record}
-use Rattle.block.specs.Judged.{judgedAs}
-use Rattle.block.proofs.Together.{head-within, notices-within, read-judged, whole-within, wrong-line, wrong-width, status-within}
+-- Behind i lines, what they told and where they end lead to the answer as the whole does; each turn reads one line more.
+use mathlib.Core.Path.{_≡_, sym, _∙_}
+use Prim.Native.Nat.{_-_, _≤_}
 use native.Mathlib.Omega.{arith}
+use borrow.Author.Tests.{eq-eqb, ne-eqb}
+use lib.ListN.{length, drop}
+use Rattle.forms.specs.Block.{blockLines}
+use Rattle.block.specs.Reading.{nothingTold, readLines}
+use Rattle.block.proofs.Answers.{turn-on, turn-within, turn-wrong}
+use Rattle.block.proofs.First.{all-closed, ended}
 use borrow.Author.Needs.{needs}
 use Rattle.block.proofs.reader.read_lines.Statement.{statement}
 use Rattle.block.proofs.reader.read_lines.Tie as tie
 
-sub-read-flags : tie.Need-sub-read-flags
-sub-read-flags c = head-within _ _ (c .before .before .before .read-head .ensures)
+abbrev Inv-loop : tie.InvT-loop
+Inv-loop s told₀ at₀ i₀ told at i =
+    (i ≤ 14) × (at ≤ length s) × (readLines blockLines s 0 nothingTold ≡ readLines (drop i blockLines) s at told)
 
-part-read-flags-start : tie.Need-part-read-flags-start
-part-read-flags-start c = omega (arith, head-within _ _ (c .before .before .before .read-head .ensures))
+abbrev μ-loop : tie.MeasureT-loop
+μ-loop s told₀ at₀ i₀ told at i = 14 - i
 
-add-b : tie.Need-add-b
-add-b c =
-    let z = c .before in
-    omega (arith, status-within _ _ (z .before .before .before .before .before .read-head .ensures) _ (z .read-flags .ensures))
-
-sub-read-flags-2 : tie.Need-sub-read-flags-2
-sub-read-flags-2 c =
-    let z = c .before .before .before .before in
-    status-within _ _ (z .before .before .before .before .before .read-head .ensures) _ (z .read-flags .ensures)
-
-part-read-flags-start-2 : tie.Need-part-read-flags-start-2
-part-read-flags-start-2 c =
-    let z = c .before .before .before .before in
-    omega (arith, status-within _ _ (z .before .before .before .before .before .read-head .ensures) _ (z .read-flags .ensures))
-
-add-c : tie.Need-add-c
-add-c c =
-    let z = c .before .before .before .before .before .before .before in
-    omega (arith, notices-within _ _ (z .before .before .before .before .before .read-head .ensures) _ (z .read-flags .ensures) _ (c .before .read-flags2 .ensures))
-
-sub-read-tail : tie.Need-sub-read-tail
-sub-read-tail c =
-    let z = c .before .before .before .before .before .before .before in
-    notices-within _ _ (z .before .before .before .before .before .read-head .ensures) _ (z .read-flags .ensures) _ (c .before .read-flags2 .ensures)
-
-part-read-tail-start : tie.Need-part-read-tail-start
-part-read-tail-start c =
-    let z = c .before .before .before .before .before .before .before in
-    omega (arith, notices-within _ _ (z .before .before .before .before .before .read-head .ensures) _ (z .read-flags .ensures) _ (c .before .read-flags2 .ensures))
-
-add-if1 : tie.Need-add-if1
-add-if1 c =
-    let t = c .before in
-    let n = t .before .before .before in
-    let z = n .before .before .before .before .before .before in
-    let h = z .before .before .before .before .before in
-    omega (arith, whole-within _ _ (h .read-head .ensures) _ (z .read-flags .ensures) _ (n .read-flags2 .ensures) _ (t .read-tail .ensures), h .before .before .pre)
-
-returns : tie.Need-returns
+returns : tie.Need-returns Inv-loop μ-loop
 returns c =
-    let t = c .before .before in
-    let n = t .before .before .before in
-    let z = n .before .before .before .before .before .before in
-    let h = z .before .before .before .before .before in
-    sym (wrong-width _ _ (h .read-head .ensures) _ (z .read-flags .ensures) _ (n .read-flags2 .ensures) _ (t .read-tail .ensures) (h .before .before .pre .0) (h .before .before .pre .1) (c .if1 .taken))
+    let l = c .before .before .before .before .before .loop in
+    sym (l .inv .2 ∙ turn-wrong blockLines _ (l .at) (l .i) (omega arith) (l .told) _ (c .before .before .read-line .ensures) (c .enum-told .given .1))
 
-returns-2 : tie.Need-returns-2
-returns-2 c =
-    let t = c .before .before .before .before .before .before .before .before .before in
-    let n = t .before .before .before in
-    let z = n .before .before .before .before .before .before in
-    let h = z .before .before .before .before .before in
-    c .judged .ensures ∙ ap (λ (r : Record). judgedAs r (t .read-tail .result .minutes) (t .read-tail .result .tied)) (c .before .record-of .ensures)
-    ∙ sym (read-judged _ _ (h .read-head .ensures) _ (z .read-flags .ensures) _ (n .read-flags2 .ensures) _ (t .read-tail .ensures) (h .before .before .pre .0) (h .before .before .pre .1) (c .before .before .before .before .before .before .before .if1 .left) (c .before .before .if2 .taken))
+add-at : tie.Need-add-at Inv-loop μ-loop
+add-at c =
+    let l = c .before .before .before .before .before .before .loop in
+    let s = c .before .before .before .before .before .before .before .before .before .args .s .now in
+    omega (
+      arith,
+      turn-within blockLines s (l .at) (l .i) (omega arith) (l .told) _ (c .before .before .before .read-line .ensures) all-closed (l .inv .1) _ _ (c .before .found .given .1),
+    )
 
-returns-3 : tie.Need-returns-3
-returns-3 c =
-    let t = c .before .before .before .before .before .before .before in
-    let n = t .before .before .before in
-    let z = n .before .before .before .before .before .before in
-    let h = z .before .before .before .before .before in
-    sym (wrong-line _ _ (h .read-head .ensures) _ (z .read-flags .ensures) _ (n .read-flags2 .ensures) _ (t .read-tail .ensures) (h .before .before .pre .0) (h .before .before .pre .1) (c .if2 .left))
+loop-again : tie.Need-loop-again Inv-loop μ-loop
+loop-again c =
+    let l = c .before .before .before .before .before .before .loop in
+    let s = c .before .before .before .before .before .before .before .before .before .args .s .now in
+    let e = c .before .before .before .read-line .ensures in
+    let q = c .before .found .given .1 in
+    (omega arith, turn-within blockLines s (l .at) (l .i) (omega arith) (l .told) _ e all-closed (l .inv .1) _ _ q, l .inv .2 ∙ turn-on blockLines s (l .at) (l .i) (omega arith) (l .told) _ e _ _ q)
 
 pub read-lines-spec : {M : Type 1} → statement M
 read-lines-spec =
     tie.close
     (tie.spec
+    Inv-loop μ-loop (λ c κs. search needs) (λ c. (search needs, search needs, simp (c .empty .ensures))) (λ c. search needs)
+    (λ c. search needs) (λ c. search needs) (λ c κs. search needs) (λ c. search needs) (λ c. search needs) returns add-at
+    (λ c. search needs) (λ c. search needs) loop-again
+    (λ c.
+    let l = c .before .before .loop in
+    sym (l .inv .2 ∙ ended _ (l .at) (l .told) (l .i) (omega arith) ∙ simp (ne-eqb (l .at) _ (c .if1 .taken))))
     (λ c κs. search needs)
-    (λ c. search needs)
-    (λ c. search needs)
-    (λ c. search needs)
-    sub-read-flags
-    part-read-flags-start
-    (λ c. search needs)
-    (λ c κs. search needs)
-    add-b
-    (λ c. search needs)
-    (λ c. search needs)
-    (λ c. search needs)
-    sub-read-flags-2
-    part-read-flags-start-2
-    (λ c. search needs)
-    (λ c κs. search needs)
-    add-c
-    sub-read-tail
-    part-read-tail-start
-    (λ c. search needs)
-    (λ c κs. search needs)
-    add-if1
-    returns
-    (λ c κs. search needs)
-    (λ c κs. search needs)
-    returns-2
-    returns-3)
+    (λ c.
+    let l = c .before .before .before .loop in
+    c .validated .ensures ∙ sym (l .inv .2 ∙ ended _ (l .at) (l .told) (l .i) (omega arith) ∙ simp (eq-eqb (l .at) _ (c .before .if1 .left)))))

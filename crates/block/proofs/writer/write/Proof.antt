@@ -4,7 +4,7 @@ use Prim.Native.Nat.{_≤_}
 use native.Mathlib.Omega.{arith}
 use lib.ListN.{length}
 use denote.Ref.{now}
-use Rattle.forms.specs.Block.{blockOf}
+use Rattle.forms.specs.Block.{blockOf, firstEdition}
 use Rattle.forms.proofs.Writes.{bad-record, short-buffer, written-as}
 use Rattle.block.proofs.Rows.{block-complete, block-stored, block-worded}
 use borrow.Author.Needs.{needs}
@@ -15,32 +15,22 @@ returns : tie.Need-returns
 returns c =
     let a = c .before .before .before .before .before .args in
     let g = sym (c .before .before .before .is-good .ensures) ∙ c .before .before .if1 .taken in
-    short-buffer (blockOf (a .r)) (a .r) (now (a .out)) g (block-complete (a .r)) (block-worded (a .r) g) (omega (arith, c .before .size .ensures))
-
-write-lines-requires : tie.Need-write-lines-requires
-write-lines-requires c κs = omega (arith, c .before .before .size .ensures)
+    short-buffer (blockOf firstEdition (a .r)) (a .r) (now (a .out)) g (block-complete (a .r)) (block-worded (a .r) g) (omega (arith, c .before .size .ensures))
 
 returns-2 : tie.Need-returns-2
 returns-2 c =
     let a = c .before .before .before .before .before .before .before .before .before .args in
     let g = sym (c .before .before .before .before .before .before .before .is-good .ensures) ∙ c .before .before .before .before .before .before .if1 .taken in
     let n = c .before .before .before .before .before .size .ensures in
-    let l : blockOf (a .r) .size ≤ length (now (a .out)) = omega (arith, c .before .before .before .before .if2 .left) in
-    rw n (written-as (blockOf (a .r)) (a .r) (now (a .out)) g (block-complete (a .r)) (block-worded (a .r) g) _ l (c .before .before .write-lines .ensures ∙ block-stored (a .r) g (now (a .out)) l))
-
-returns-3 : tie.Need-returns-3
-returns-3 c =
-    let a = c .before .before .before .args in
-    bad-record (blockOf (a .r)) (a .r) (now (a .out)) (sym (c .before .is-good .ensures) ∙ c .if1 .left)
+    let l : blockOf firstEdition (a .r) .size ≤ length (now (a .out)) = omega (arith, c .before .before .before .before .if2 .left) in
+    rw n (written-as (blockOf firstEdition (a .r)) (a .r) (now (a .out)) g (block-complete (a .r)) (block-worded (a .r) g) _ l (c .before .before .write-lines .ensures ∙ block-stored (a .r) g (now (a .out)) l))
 
 pub write-spec : {M : Type 1} → statement M
 write-spec =
     tie.close
     (tie.spec
-    (λ c κs. search needs)
-    (λ c κs. search needs)
-    returns
-    write-lines-requires
-    (λ c. search needs)
+    (λ c κs. search needs) (λ c κs. search needs) returns (λ c κs. omega (arith, c .before .before .size .ensures)) (λ c. search needs)
     returns-2
-    returns-3)
+    (λ c.
+    let a = c .before .before .before .args in
+    bad-record (blockOf firstEdition (a .r)) (a .r) (now (a .out)) (sym (c .before .is-good .ensures) ∙ c .if1 .left)))

@@ -11,23 +11,16 @@ use borrow.Author.Needs.{needs}
 use Rattle.block_lines.proofs.date.has_day_of_year.Statement.{statement}
 use Rattle.block_lines.proofs.date.has_day_of_year.Tie as tie
 
-returns : tie.Need-returns
-unfolding isClosed rowWidth
-returns c = too-short (getD dateLine 2 []) (c .before .before .args .s .now) refl (omega arith)
-
-returns-2 : tie.Need-returns-2
-unfolding shape
-returns-2 c = simp (c .is-at .ensures, c .before .digits-at .ensures, c .before .before .text-at2 .ensures, c .before .before .before .before .text-at .ensures, and-true)
-
 pub has-day-of-year-spec : {M : Type 1} → statement M
 has-day-of-year-spec =
     tie.close
     (tie.spec
-    returns
-    (λ c. search needs)
-    (λ c κs. search needs)
-    (λ c. search needs)
-    (λ c κs. search needs)
-    (λ c κs. search needs)
-    (λ c κs. search needs)
-    returns-2)
+    (λ c. unfold isClosed rowWidth in too-short (getD dateLine 2 []) (c .before .before .args .s .now) refl (omega arith))
+    (λ c. search needs) (λ c κs. search needs) (λ c. search needs) (λ c κs. search needs) (λ c κs. search needs) (λ c κs. search needs)
+    (λ c. unfold shape in simp (
+      c .is-at .ensures,
+      c .before .digits-at .ensures,
+      c .before .before .text-at2 .ensures,
+      c .before .before .before .before .text-at .ensures,
+      and-true,
+    )))

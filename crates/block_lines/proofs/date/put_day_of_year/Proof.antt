@@ -4,18 +4,9 @@ use borrow.Author.Needs.{needs}
 use Rattle.block_lines.proofs.date.put_day_of_year.Statement.{statement}
 use Rattle.block_lines.proofs.date.put_day_of_year.Tie as tie
 
-returns : tie.Need-returns
-returns c = (refl, cc)
-
 pub put-day-of-year-spec : {M : Type 1} → statement M
 put-day-of-year-spec =
     tie.close
     (tie.spec
-    (λ c. search needs)
-    (λ c κs. search needs)
-    (λ c. search needs)
-    (λ c κs. search needs)
-    (λ c κs. search needs)
-    (λ c κs. search needs)
-    (λ c. search needs)
-    returns)
+    (λ c. search needs) (λ c κs. search needs) (λ c. search needs) (λ c κs. search needs) (λ c κs. search needs) (λ c κs. search needs)
+    (λ c. search needs) (λ c. (refl, cc)))

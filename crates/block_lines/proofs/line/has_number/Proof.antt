@@ -6,13 +6,14 @@ use borrow.Author.Needs.{needs}
 use Rattle.block_lines.proofs.line.has_number.Statement.{statement}
 use Rattle.block_lines.proofs.line.has_number.Tie as tie
 
-returns : tie.Need-returns
-returns c = let a = c .before .before .before .args in number-closed (a .key .now) (a .s .now) (a .w) (omega arith)
-
-returns-2 : tie.Need-returns-2
-returns-2 c = let a = c .before .before .before .before .before .before .args in simp (c .is-at .ensures, c .before .digits-at .ensures, c .before .before .text-at .ensures) (sym (number-shape (a .key .now) (a .s .now) (a .w)))
-
 pub has-number-spec : {M : Type 1} → statement M
 has-number-spec =
     tie.close
-    (tie.spec (λ c. search needs) returns (λ c κs. search needs) (λ c κs. search needs) (λ c κs. search needs) returns-2)
+    (tie.spec
+    (λ c. search needs) (λ c f. let a = c .before .before .before .args in number-closed (a .key .now) (a .s .now) (a .w) f (omega arith))
+    (λ c κs. search needs) (λ c κs. search needs) (λ c κs. search needs)
+    (λ c f. let a = c .before .before .before .before .before .before .args in simp (
+      c .is-at .ensures,
+      c .before .digits-at .ensures,
+      c .before .before .text-at .ensures,
+    ) (sym (number-shape (a .key .now) (a .s .now) (a .w) f))))

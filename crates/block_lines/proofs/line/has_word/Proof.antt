@@ -6,13 +6,15 @@ use borrow.Author.Needs.{needs}
 use Rattle.block_lines.proofs.line.has_word.Statement.{statement}
 use Rattle.block_lines.proofs.line.has_word.Tie as tie
 
-returns : tie.Need-returns
-returns c = let a = c .before .before .before .before .args in word-closed (a .key .now) (a .s .now) (a .word .now) (omega arith)
-
-returns-2 : tie.Need-returns-2
-returns-2 c = let a = c .before .before .before .before .before .before .before .args in simp (c .is-at .ensures, c .before .text-at2 .ensures, c .before .before .text-at .ensures) (sym (word-shape (a .key .now) (a .s .now) (a .word .now)))
-
 pub has-word-spec : {M : Type 1} → statement M
 has-word-spec =
     tie.close
-    (tie.spec (λ c. search needs) returns (λ c κs. search needs) (λ c κs. search needs) (λ c κs. search needs) returns-2)
+    (tie.spec
+    (λ c. search needs)
+    (λ c. let a = c .before .before .before .before .args in word-closed (a .key .now) (a .s .now) (a .word .now) (omega arith))
+    (λ c κs. search needs) (λ c κs. search needs) (λ c κs. search needs)
+    (λ c. let a = c .before .before .before .before .before .before .before .args in simp (
+      c .is-at .ensures,
+      c .before .text-at2 .ensures,
+      c .before .before .text-at .ensures,
+    ) (sym (word-shape (a .key .now) (a .s .now) (a .word .now)))))

@@ -11,24 +11,19 @@ use borrow.Author.Needs.{needs}
 use Rattle.block_lines.proofs.offset.has_offset.Statement.{statement}
 use Rattle.block_lines.proofs.offset.has_offset.Tie as tie
 
-returns : tie.Need-returns
-unfolding isClosed rowWidth
-returns c = too-short (getD offsetLine 1 []) (c .before .before .args .s .now) refl (omega arith)
-
-returns-2 : tie.Need-returns-2
-unfolding shape
-returns-2 c = simp (c .is-at2 .ensures, c .before .digits-at2 .ensures, c .before .before .is-at .ensures, c .before .before .before .digits-at .ensures, c .before .before .before .before .letter-at .ensures, c .before .before .before .before .before .text-at .ensures, and-true)
-
 pub has-offset-spec : {M : Type 1} → statement M
 has-offset-spec =
     tie.close
     (tie.spec
-    returns
-    (λ c. search needs)
+    (λ c. unfold isClosed rowWidth in too-short (getD offsetLine 1 []) (c .before .before .args .s .now) refl (omega arith))
+    (λ c. search needs) (λ c κs. search needs) (λ c κs. search needs) (λ c κs. search needs) (λ c κs. search needs) (λ c κs. search needs)
     (λ c κs. search needs)
-    (λ c κs. search needs)
-    (λ c κs. search needs)
-    (λ c κs. search needs)
-    (λ c κs. search needs)
-    (λ c κs. search needs)
-    returns-2)
+    (λ c. unfold shape in simp (
+      c .is-at2 .ensures,
+      c .before .digits-at2 .ensures,
+      c .before .before .is-at .ensures,
+      c .before .before .before .digits-at .ensures,
+      c .before .before .before .before .letter-at .ensures,
+      c .before .before .before .before .before .text-at .ensures,
+      and-true,
+    )))

@@ -11,25 +11,21 @@ use borrow.Author.Needs.{needs}
 use Rattle.block_lines.proofs.position.has_position.Statement.{statement}
 use Rattle.block_lines.proofs.position.has_position.Tie as tie
 
-returns : tie.Need-returns
-unfolding isClosed rowWidth
-returns c = too-short (getD positionLine 1 []) (c .before .before .args .s .now) refl (omega arith)
-
-returns-2 : tie.Need-returns-2
-unfolding shape
-returns-2 c = simp (c .is-at3 .ensures, c .before .digits-at .ensures, c .before .before .is-at2 .ensures, c .before .before .before .has-degrees2 .ensures, c .before .before .before .before .is-at .ensures, c .before .before .before .before .before .has-degrees .ensures, c .before .before .before .before .before .before .text-at .ensures, and-assoc, and-true)
-
 pub has-position-spec : {M : Type 1} → statement M
 has-position-spec =
     tie.close
     (tie.spec
-    returns
-    (λ c. search needs)
-    (λ c κs. search needs)
-    (λ c κs. search needs)
-    (λ c κs. search needs)
-    (λ c κs. search needs)
-    (λ c κs. search needs)
-    (λ c κs. search needs)
-    (λ c κs. search needs)
-    returns-2)
+    (λ c. unfold isClosed rowWidth in too-short (getD positionLine 1 []) (c .before .before .args .s .now) refl (omega arith))
+    (λ c. search needs) (λ c κs. search needs) (λ c κs. search needs) (λ c κs. search needs) (λ c κs. search needs) (λ c κs. search needs)
+    (λ c κs. search needs) (λ c κs. search needs)
+    (λ c. unfold shape in simp (
+      c .is-at3 .ensures,
+      c .before .digits-at .ensures,
+      c .before .before .is-at2 .ensures,
+      c .before .before .before .has-degrees2 .ensures,
+      c .before .before .before .before .is-at .ensures,
+      c .before .before .before .before .before .has-degrees .ensures,
+      c .before .before .before .before .before .before .text-at .ensures,
+      and-assoc,
+      and-true,
+    )))

@@ -4,20 +4,9 @@ use borrow.Author.Needs.{needs}
 use Rattle.block_lines.proofs.position.put_position.Statement.{statement}
 use Rattle.block_lines.proofs.position.put_position.Tie as tie
 
-returns : tie.Need-returns
-returns c = (refl, cc)
-
 pub put-position-spec : {M : Type 1} → statement M
 put-position-spec =
     tie.close
     (tie.spec
-    (λ c. search needs)
-    (λ c κs. search needs)
-    (λ c κs. search needs)
-    (λ c κs. search needs)
-    (λ c κs. search needs)
-    (λ c κs. search needs)
-    (λ c κs. search needs)
-    (λ c κs. search needs)
-    (λ c. search needs)
-    returns)
+    (λ c. search needs) (λ c κs. search needs) (λ c κs. search needs) (λ c κs. search needs) (λ c κs. search needs) (λ c κs. search needs)
+    (λ c κs. search needs) (λ c κs. search needs) (λ c. search needs) (λ c. (refl, cc)))

@@ -10,14 +10,14 @@ returns : tie.Need-returns
 unfolding values
 returns c =
     let l = c .before .before .before .before .before .pre in
-    simp (c .sign-agrees2 .ensures, c .before .degrees-at2 .ensures .0, c .before .before .sign-agrees .ensures, c .before .before .before .degrees-at .ensures .0, sign-tied (c .before .before .before .before .before .args .s .now) 9 (omega arith), sign-tied (c .before .before .before .before .before .args .s .now) 19 (omega arith))
+    simp (
+      c .sign-agrees2 .ensures,
+      c .before .degrees-at2 .ensures .0,
+      c .before .before .sign-agrees .ensures,
+      c .before .before .before .degrees-at .ensures .0,
+      sign-tied (c .before .before .before .before .before .args .s .now) 9 (omega arith),
+      sign-tied (c .before .before .before .before .before .args .s .now) 19 (omega arith),
+    )
 
 pub tied-at-spec : {M : Type 1} → statement M
-tied-at-spec =
-    tie.close
-    (tie.spec
-    (λ c κs. search needs)
-    (λ c κs. search needs)
-    (λ c κs. search needs)
-    (λ c κs. search needs)
-    returns)
+tied-at-spec = tie.close (tie.spec (λ c κs. search needs) (λ c κs. search needs) (λ c κs. search needs) (λ c κs. search needs) returns)

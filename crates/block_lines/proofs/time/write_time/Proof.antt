@@ -6,17 +6,9 @@ use borrow.Author.Needs.{needs}
 use Rattle.block_lines.proofs.time.write_time.Statement.{statement}
 use Rattle.block_lines.proofs.time.write_time.Tie as tie
 
-returns : tie.Need-returns
-unfolding stores rowWidth
-returns c = (refl, cc)
-
 pub write-time-spec : {M : Type 1} → statement M
 write-time-spec =
     tie.close
     (tie.spec
-    (λ c. search needs)
-    (λ c κs. search needs)
-    (λ c κs. search needs)
-    (λ c κs. search needs)
-    (λ c. search needs)
-    returns)
+    (λ c. search needs) (λ c κs. search needs) (λ c κs. search needs) (λ c κs. search needs) (λ c. search needs)
+    (λ c. unfold stores rowWidth in (refl, cc)))

@@ -1,13 +1,13 @@
 -- Each sign is its letter's, and the degrees are far below what 32 bits hold.
 use mathlib.Core.Path.{_∙_}
-use Rattle.erlangen.proofs.Signs.{same-position, signed-at}
+use Rattle.layout.proofs.Signed.{same-position, signed-at}
 use native.Mathlib.Omega.{arith}
 use denote.Ref.{now}
 use mir.Facts.{toZ-ofZ}
 use mir.Syntax.{w32}
 use mir.Val.{SFits}
+use Rattle.forms.specs.Fields.Position.{positionFrom}
 use Rattle.forms.specs.Places.{values}
-use Rattle.forms.specs.Spelled.{positionFrom}
 use borrow.Author.Needs.{needs}
 use Rattle.erlangen.proofs.reader.position_at.Statement.{statement}
 use Rattle.erlangen.proofs.reader.position_at.Tie as tie
@@ -28,11 +28,5 @@ pub position-at-spec : {M : Type 1} → statement M
 position-at-spec =
     tie.close
     (tie.spec
-    (λ c. search needs)
-    (λ c. search needs)
-    (λ c κs. search needs)
-    (λ c κs. search needs)
-    (λ c κs. search needs)
-    (λ c κs. search needs)
-    (λ c κs. search needs)
-    returns)
+    (λ c. search needs) (λ c. search needs) (λ c κs. search needs) (λ c κs. search needs) (λ c κs. search needs) (λ c κs. search needs)
+    (λ c κs. search needs) returns)

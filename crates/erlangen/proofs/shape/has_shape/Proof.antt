@@ -1,4 +1,5 @@
 -- The row is tested in its six pieces.
+use mathlib.Core.Bool.{and-assoc}
 use mathlib.Core.Path.{sym}
 use denote.Ref.{now}
 use Rattle.erlangen.proofs.Row.{shape-pieces}
@@ -8,17 +9,15 @@ use Rattle.erlangen.proofs.shape.has_shape.Tie as tie
 
 returns : tie.Need-returns
 returns c =
-    simp (c .is-position .ensures, c .before .is-leap-second .ensures, c .before .before .are-flags .ensures, c .before .before .before .is-offset .ensures, c .before .before .before .before .is-time .ensures, c .before .before .before .before .before .is-date .ensures)
-    (sym (shape-pieces (now (c .before .before .before .before .before .before .before .args .s))))
+    let k = c .before .before .before in
+    simp and-assoc
+    (simp (k .before .before .is-date .ensures, k .before .is-time .ensures, k .is-offset .ensures)
+    (simp (c .before .before .are-flags .ensures, c .before .is-leap-second .ensures, c .is-position .ensures)
+    (sym (shape-pieces (now (k .before .before .before .before .args .s))))))
 
 pub has-shape-spec : {M : Type 1} → statement M
 has-shape-spec =
     tie.close
     (tie.spec
-    (λ c κs. search needs)
-    (λ c κs. search needs)
-    (λ c κs. search needs)
-    (λ c κs. search needs)
-    (λ c κs. search needs)
-    (λ c κs. search needs)
-    returns)
+    (λ c κs. search needs) (λ c κs. search needs) (λ c κs. search needs) (λ c κs. search needs) (λ c κs. search needs)
+    (λ c κs. search needs) returns)

@@ -1,20 +1,12 @@
 -- Each part of the test is a call.
+use mathlib.Core.Bool.{and-assoc}
 use borrow.Author.Needs.{needs}
 use Rattle.erlangen.proofs.shape.is_degrees.Statement.{statement}
 use Rattle.erlangen.proofs.shape.is_degrees.Tie as tie
-
-returns : tie.Need-returns
-returns c = cc
 
 pub is-degrees-spec : {M : Type 1} → statement M
 is-degrees-spec =
     tie.close
     (tie.spec
-    (λ c κs. search needs)
-    (λ c. search needs)
-    (λ c κs. search needs)
-    (λ c. search needs)
-    (λ c κs. search needs)
-    (λ c. search needs)
-    (λ c κs. search needs)
-    returns)
+    (λ c κs. search needs) (λ c. search needs) (λ c κs. search needs) (λ c. search needs) (λ c κs. search needs) (λ c. search needs)
+    (λ c κs. search needs) (λ c. simp and-assoc (cc)))

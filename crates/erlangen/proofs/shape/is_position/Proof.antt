@@ -7,17 +7,15 @@ use Rattle.erlangen.proofs.shape.is_position.Tie as tie
 
 returns : tie.Need-returns
 unfolding shape
-returns c = simp (c .before .before .before .before .is-degrees2 .ensures, c .before .before .before .before .before .before .is-degrees .ensures, and-assoc, and-true) (cc)
+returns c =
+    let k = c .before .before .before .before in
+    simp (and-assoc, and-true)
+    (simp (k .before .before .is-degrees .ensures, k .before .is-at .ensures, k .is-degrees2 .ensures)
+    (simp (c .before .before .before .is-at2 .ensures, c .before .before .padded-at .ensures, c .text-at .ensures, and-assoc)))
 
 pub is-position-spec : {M : Type 1} → statement M
 is-position-spec =
     tie.close
     (tie.spec
-    (λ c κs. search needs)
-    (λ c κs. search needs)
-    (λ c κs. search needs)
-    (λ c κs. search needs)
-    (λ c κs. search needs)
-    (λ c. search needs)
-    (λ c κs. search needs)
-    returns)
+    (λ c κs. search needs) (λ c κs. search needs) (λ c κs. search needs) (λ c κs. search needs) (λ c κs. search needs) (λ c. search needs)
+    (λ c κs. search needs) returns)

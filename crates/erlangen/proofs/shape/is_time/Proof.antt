@@ -5,10 +5,10 @@ use borrow.Author.Needs.{needs}
 use Rattle.erlangen.proofs.shape.is_time.Statement.{statement}
 use Rattle.erlangen.proofs.shape.is_time.Tie as tie
 
-returns : tie.Need-returns
-unfolding shape
-returns c = simp (c .before .before .pairs-at .ensures, and-assoc, and-true) (cc)
-
 pub is-time-spec : {M : Type 1} → statement M
+unfolding shape
 is-time-spec =
-    tie.close (tie.spec (λ c κs. search needs) (λ c. search needs) (λ c κs. search needs) returns)
+    tie.close
+    (tie.spec
+    (λ c κs. search needs) (λ c. search needs) (λ c κs. search needs)
+    (λ c. simp (c .before .before .pairs-at .ensures, and-assoc, and-true) (cc)))

@@ -13,8 +13,7 @@ returns c = c .is-at .ensures ∙ sym (leap-letter (now (c .before .before .befo
 
 returns-2 : tie.Need-returns-2
 unfolding values
-returns-2 c = c .is-at2 .ensures ∙ sym (plain-letter (now (c .before .before .before .before .args .s)) (λ e. c .before .if1 .left (c .before .before .number-at .ensures .0 ∙ e)))
+returns-2 c = c .is-at2 .ensures ∙ sym (plain-letter (now (c .before .before .before .before .args .s)) (c .before .before .before .before .pre) (λ e. c .before .if1 .left (c .before .before .number-at .ensures .0 ∙ e)))
 
 pub leap-agrees-spec : {M : Type 1} → statement M
-leap-agrees-spec =
-    tie.close (tie.spec (λ c κs. search needs) (λ c κs. search needs) (λ c κs. search needs) returns returns-2)
+leap-agrees-spec = tie.close (tie.spec (λ c κs. search needs) (λ c κs. search needs) (λ c κs. search needs) returns returns-2)

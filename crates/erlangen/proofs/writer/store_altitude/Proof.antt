@@ -4,17 +4,9 @@ use borrow.Author.Needs.{needs}
 use Rattle.erlangen.proofs.writer.store_altitude.Statement.{statement}
 use Rattle.erlangen.proofs.writer.store_altitude.Tie as tie
 
-returns : tie.Need-returns
-unfolding stores
-returns c = cc
-
 pub store-altitude-spec : {M : Type 1} → statement M
+unfolding stores
 store-altitude-spec =
     tie.close
     (tie.spec
-    (λ c κs. search needs)
-    (λ c κs. search needs)
-    (λ c. search needs)
-    (λ c κs. search needs)
-    (λ c. search needs)
-    returns)
+    (λ c κs. search needs) (λ c κs. search needs) (λ c. search needs) (λ c κs. search needs) (λ c. search needs) (λ c. cc))

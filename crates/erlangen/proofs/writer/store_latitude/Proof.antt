@@ -5,17 +5,10 @@ use borrow.Author.Needs.{needs}
 use Rattle.erlangen.proofs.writer.store_latitude.Statement.{statement}
 use Rattle.erlangen.proofs.writer.store_latitude.Tie as tie
 
-returns : tie.Need-returns
-unfolding stores
-returns c = cc (south-told (c .before .before .before .before .before .before .before .before .before .before .before .args .r .position))
-
 pub store-latitude-spec : {M : Type 1} → statement M
+unfolding stores
 store-latitude-spec =
     tie.close
     (tie.spec
-    (λ c κs. search needs)
-    (λ c κs. search needs)
-    (λ c κs. search needs)
-    (λ c κs. search needs)
-    (λ c. search needs)
-    returns)
+    (λ c κs. search needs) (λ c κs. search needs) (λ c κs. search needs) (λ c κs. search needs) (λ c. search needs)
+    (λ c. cc (south-told (c .before .before .before .before .before .before .before .before .before .before .before .args .r .position))))

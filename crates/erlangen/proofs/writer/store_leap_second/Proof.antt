@@ -4,11 +4,9 @@ use borrow.Author.Needs.{needs}
 use Rattle.erlangen.proofs.writer.store_leap_second.Statement.{statement}
 use Rattle.erlangen.proofs.writer.store_leap_second.Tie as tie
 
-returns : tie.Need-returns
-unfolding stores
-returns c = cc
-
 pub store-leap-second-spec : {M : Type 1} → statement M
+unfolding stores
 store-leap-second-spec =
     tie.close
-    (tie.spec (λ c κs. search needs) (λ c κs. search needs) (λ c κs. search needs) (λ c. search needs) returns)
+    (tie.spec
+    (λ c κs. search needs) (λ c κs. search needs) (λ c κs. search needs) (λ c. search needs) (λ c. cc))

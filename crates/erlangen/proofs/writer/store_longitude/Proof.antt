@@ -5,17 +5,10 @@ use borrow.Author.Needs.{needs}
 use Rattle.erlangen.proofs.writer.store_longitude.Statement.{statement}
 use Rattle.erlangen.proofs.writer.store_longitude.Tie as tie
 
-returns : tie.Need-returns
-unfolding stores
-returns c = cc (west-told (c .before .before .before .before .before .before .before .before .before .before .before .args .r .position))
-
 pub store-longitude-spec : {M : Type 1} → statement M
+unfolding stores
 store-longitude-spec =
     tie.close
     (tie.spec
-    (λ c κs. search needs)
-    (λ c κs. search needs)
-    (λ c κs. search needs)
-    (λ c κs. search needs)
-    (λ c. search needs)
-    returns)
+    (λ c κs. search needs) (λ c κs. search needs) (λ c κs. search needs) (λ c κs. search needs) (λ c. search needs)
+    (λ c. cc (west-told (c .before .before .before .before .before .before .before .before .before .before .before .args .r .position))))

@@ -9,9 +9,6 @@ use borrow.Author.Needs.{needs}
 use Rattle.frame.proofs.groups.bcd_number.Statement.{statement}
 use Rattle.frame.proofs.groups.bcd_number.Tie as tie
 
-mul-result : tie.Need-mul-result
-mul-result c = omega (arith, ltb-true (c .before .number-at2 .result) 10 (both (ltb (c .before .before .number-at .result) 10) _ (c .if1 .taken) .1))
-
 add-result : tie.Need-add-result
 add-result c = omega (arith, ltb-true (c .before .before .number-at .result) 10 (both _ (ltb (c .before .number-at2 .result) 10) (c .if1 .taken) .0), ltb-true (c .before .number-at2 .result) 10 (both (ltb (c .before .before .number-at .result) 10) _ (c .if1 .taken) .1))
 
@@ -29,10 +26,6 @@ pub bcd-number-spec : {M : Type 1} → statement M
 bcd-number-spec =
     tie.close
     (tie.spec
-    (λ c κs. search needs)
-    (λ c. search needs)
-    (λ c κs. search needs)
-    mul-result
-    add-result
-    returns
-    returns-2)
+    (λ c κs. search needs) (λ c. search needs) (λ c κs. search needs)
+    (λ c. omega (arith, ltb-true (c .before .number-at2 .result) 10 (both (ltb (c .before .before .number-at .result) 10) _ (c .if1 .taken) .1)))
+    add-result returns returns-2)

@@ -5,12 +5,11 @@ use borrow.Author.Needs.{needs}
 use Rattle.frame.proofs.groups.bits_at.Statement.{statement}
 use Rattle.frame.proofs.groups.bits_at.Tie as tie
 
-returns : tie.Need-returns
-returns c =
-    let a = c .before .before .before .args in
-    simp (part (now (a .s)) (a .at) (a .w)) at (c .are-bits .ensures)
-
 pub bits-at-spec : {M : Type 1} → statement M
 bits-at-spec =
     tie.close
-    (tie.spec (λ c. search needs) (λ c. search needs) (λ c. search needs) (λ c. search needs) (λ c κs. search needs) returns)
+    (tie.spec
+    (λ c. search needs) (λ c. search needs) (λ c. search needs) (λ c. search needs) (λ c κs. search needs)
+    (λ c.
+    let a = c .before .before .before .args in
+    simp (part (now (a .s)) (a .at) (a .w)) at (c .are-bits .ensures)))

@@ -16,4 +16,5 @@ returns-2 c =
 pub day-seconds-spec : {M : Type 1} → statement M
 day-seconds-spec =
     tie.close
-    (tie.spec (λ c κs. search needs) (λ c κs. search needs) (λ c. search needs) (λ c. search needs) returns returns-2)
+    (tie.spec
+    (λ c κs. search needs) (λ c κs. search needs) (λ c. search needs) (λ c. search needs) returns returns-2)

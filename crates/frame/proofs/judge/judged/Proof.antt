@@ -6,11 +6,6 @@ use borrow.Author.Needs.{needs}
 use Rattle.frame.proofs.judge.judged.Statement.{statement}
 use Rattle.frame.proofs.judge.judged.Tie as tie
 
-parts-agree-requires : tie.Need-parts-agree-requires
-parts-agree-requires c κs =
-    let b = c .before .before .before in
-    (b .before .before .before .pre, sym (b .in-range .ensures) ∙ c .before .before .if1 .taken)
-
 returns : tie.Need-returns
 returns c =
     let b = c .before .before .before .before .before in
@@ -39,11 +34,8 @@ pub judged-spec : {M : Type 1} → statement M
 judged-spec =
     tie.close
     (tie.spec
-    (λ c κs. search needs)
-    (λ c κs. search needs)
-    (λ c κs. search needs)
-    parts-agree-requires
-    returns
-    returns-2
-    returns-3
-    returns-4)
+    (λ c κs. search needs) (λ c κs. search needs) (λ c κs. search needs)
+    (λ c κs.
+    let b = c .before .before .before in
+    (b .before .before .before .pre, sym (b .in-range .ensures) ∙ c .before .before .if1 .taken))
+    returns returns-2 returns-3 returns-4)

@@ -6,18 +6,9 @@ use borrow.Author.Needs.{needs}
 use Rattle.frame.proofs.judge.parity_holds.Statement.{statement}
 use Rattle.frame.proofs.judge.parity_holds.Tie as tie
 
-returns : tie.Need-returns
-returns c =
-    simp (c .number-at .ensures .0, c .before .count-ones .ensures) (sym (parity-of (now (c .before .before .before .before .args .s))))
-
 pub parity-holds-spec : {M : Type 1} → statement M
 parity-holds-spec =
     tie.close
     (tie.spec
-    (λ c. search needs)
-    (λ c. search needs)
-    (λ c. search needs)
-    (λ c κs. search needs)
-    (λ c κs. search needs)
-    (λ c. search needs)
-    returns)
+    (λ c. search needs) (λ c. search needs) (λ c. search needs) (λ c κs. search needs) (λ c κs. search needs) (λ c. search needs)
+    (λ c. simp (c .number-at .ensures .0, c .before .count-ones .ensures) (sym (parity-of (now (c .before .before .before .before .args .s))))))

@@ -4,9 +4,6 @@ use borrow.Author.Needs.{needs}
 use Rattle.frame.proofs.rows.digits_row.Statement.{statement}
 use Rattle.frame.proofs.rows.digits_row.Tie as tie
 
-returns : tie.Need-returns
-unfolding bitsOf groupsOf
-returns c = c .bcd-row .ensures
-
 pub digits-row-spec : {M : Type 1} → statement M
-digits-row-spec = tie.close (tie.spec (λ c κs. search needs) returns)
+unfolding bitsOf groupsOf
+digits-row-spec = tie.close (tie.spec (λ c κs. search needs) (λ c. c .bcd-row .ensures))

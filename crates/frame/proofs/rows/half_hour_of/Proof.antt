@@ -4,14 +4,10 @@ use borrow.Author.Needs.{needs}
 use Rattle.frame.proofs.rows.half_hour_of.Statement.{statement}
 use Rattle.frame.proofs.rows.half_hour_of.Tie as tie
 
-returns : tie.Need-returns
-returns c = no-half _ _ (c .before .minutes-of .ensures) (c .if1 .taken)
-
-returns-2 : tie.Need-returns-2
-returns-2 c = one-half _ _ (c .before .before .minutes-of .ensures) (c .before .if1 .left) (c .if2 .taken)
-
-returns-3 : tie.Need-returns-3
-returns-3 c = other-half _ _ (c .before .before .minutes-of .ensures) (c .before .if1 .left) (c .if2 .left)
-
 pub half-hour-of-spec : {M : Type 1} → statement M
-half-hour-of-spec = tie.close (tie.spec (λ c κs. search needs) returns returns-2 returns-3)
+half-hour-of-spec =
+    tie.close
+    (tie.spec
+    (λ c κs. search needs) (λ c. no-half _ _ (c .before .minutes-of .ensures) (c .if1 .taken))
+    (λ c. one-half _ _ (c .before .before .minutes-of .ensures) (c .before .if1 .left) (c .if2 .taken))
+    (λ c. other-half _ _ (c .before .before .minutes-of .ensures) (c .before .if1 .left) (c .if2 .left)))

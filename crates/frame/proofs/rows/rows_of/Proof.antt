@@ -5,9 +5,6 @@ use borrow.Author.Needs.{needs}
 use Rattle.frame.proofs.rows.rows_of.Statement.{statement}
 use Rattle.frame.proofs.rows.rows_of.Tie as tie
 
-ordinal-of-requires : tie.Need-ordinal-of-requires
-ordinal-of-requires c κs = date-in (c .args .r) (c .pre)
-
 returns : tie.Need-returns
 unfolding tenRows
 returns c =
@@ -19,17 +16,6 @@ pub rows-of-spec : {M : Type 1} → statement M
 rows-of-spec =
     tie.close
     (tie.spec
-    ordinal-of-requires
-    (λ c κs. search needs)
-    (λ c κs. search needs)
-    (λ c κs. search needs)
-    (λ c κs. search needs)
-    (λ c κs. search needs)
-    (λ c κs. search needs)
-    (λ c κs. search needs)
-    (λ c κs. search needs)
-    (λ c κs. search needs)
-    (λ c κs. search needs)
-    (λ c κs. search needs)
-    (λ c κs. search needs)
-    returns)
+    (λ c κs. date-in (c .args .r) (c .pre)) (λ c κs. search needs) (λ c κs. search needs) (λ c κs. search needs) (λ c κs. search needs)
+    (λ c κs. search needs) (λ c κs. search needs) (λ c κs. search needs) (λ c κs. search needs) (λ c κs. search needs)
+    (λ c κs. search needs) (λ c κs. search needs) (λ c κs. search needs) returns)

@@ -8,20 +8,11 @@ use borrow.Author.Needs.{needs}
 use Rattle.frame.proofs.shape.date_shape.Statement.{statement}
 use Rattle.frame.proofs.shape.date_shape.Tie as tie
 
-returns : tie.Need-returns
-unfolding shape groupsWidth
-returns c = simp and-true (cc (days-shape (now (c .before .before .before .before .before .before .before .before .before .args .s))))
-
 pub date-shape-spec : {M : Type 1} → statement M
+unfolding shape groupsWidth
 date-shape-spec =
     tie.close
     (tie.spec
-    (λ c κs. search needs)
-    (λ c κs. search needs)
-    (λ c κs. search needs)
-    (λ c. search needs)
-    (λ c κs. search needs)
-    (λ c κs. search needs)
-    (λ c κs. search needs)
-    (λ c κs. search needs)
-    returns)
+    (λ c κs. search needs) (λ c κs. search needs) (λ c κs. search needs) (λ c. search needs) (λ c κs. search needs) (λ c κs. search needs)
+    (λ c κs. search needs) (λ c κs. search needs)
+    (λ c. simp and-true (cc (days-shape (now (c .before .before .before .before .before .before .before .before .before .args .s))))))

@@ -11,11 +11,4 @@ returns c =
     simp (c .before .before .before .time-shape .ensures, c .before .before .date-shape .ensures, c .before .zone-shape .ensures, c .last-shape .ensures) (sym (frame-shape (now (c .before .before .before .before .before .args .s))))
 
 pub has-shape-spec : {M : Type 1} → statement M
-has-shape-spec =
-    tie.close
-    (tie.spec
-    (λ c κs. search needs)
-    (λ c κs. search needs)
-    (λ c κs. search needs)
-    (λ c κs. search needs)
-    returns)
+has-shape-spec = tie.close (tie.spec (λ c κs. search needs) (λ c κs. search needs) (λ c κs. search needs) (λ c κs. search needs) returns)

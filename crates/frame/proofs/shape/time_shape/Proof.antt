@@ -6,22 +6,11 @@ use borrow.Author.Needs.{needs}
 use Rattle.frame.proofs.shape.time_shape.Statement.{statement}
 use Rattle.frame.proofs.shape.time_shape.Tie as tie
 
-returns : tie.Need-returns
-unfolding shape groupsWidth
-returns c = simp and-true (cc)
-
 pub time-shape-spec : {M : Type 1} → statement M
+unfolding shape groupsWidth
 time-shape-spec =
     tie.close
     (tie.spec
-    (λ c κs. search needs)
-    (λ c κs. search needs)
-    (λ c κs. search needs)
-    (λ c κs. search needs)
-    (λ c κs. search needs)
-    (λ c κs. search needs)
-    (λ c κs. search needs)
-    (λ c. search needs)
-    (λ c κs. search needs)
-    (λ c κs. search needs)
-    returns)
+    (λ c κs. search needs) (λ c κs. search needs) (λ c κs. search needs) (λ c κs. search needs) (λ c κs. search needs)
+    (λ c κs. search needs) (λ c κs. search needs) (λ c. search needs) (λ c κs. search needs) (λ c κs. search needs)
+    (λ c. simp and-true (cc)))

@@ -6,9 +6,9 @@ use borrow.Author.Needs.{needs}
 use Rattle.frame.proofs.shape.zone_shape.Statement.{statement}
 use Rattle.frame.proofs.shape.zone_shape.Tie as tie
 
-returns : tie.Need-returns
-returns c =
-    simp (c .before .bits-at .ensures, c .is-at .ensures) (sym (zone-shape (now (c .before .before .before .args .s))))
-
 pub zone-shape-spec : {M : Type 1} → statement M
-zone-shape-spec = tie.close (tie.spec (λ c κs. search needs) (λ c κs. search needs) returns)
+zone-shape-spec =
+    tie.close
+    (tie.spec
+    (λ c κs. search needs) (λ c κs. search needs)
+    (λ c. simp (c .before .bits-at .ensures, c .is-at .ensures) (sym (zone-shape (now (c .before .before .before .args .s))))))

@@ -16,25 +16,6 @@ Inv-loop rows n₀ i₀ n i = (i ≤ 8) × (n ≤ 10 * i) × (n ≡ ones (joined
 abbrev μ-loop : tie.MeasureT-loop
 μ-loop rows n₀ i₀ n i = 8 - i
 
-loop-holds : tie.Need-loop-holds Inv-loop μ-loop
-unfolding joined ones
-loop-holds c = (search needs, search needs, refl)
-
-mul-row-ones : tie.Need-mul-row-ones Inv-loop μ-loop
-mul-row-ones c = omega arith
-
-array-copy-out-row-ones : tie.Need-array-copy-out-row-ones Inv-loop μ-loop
-array-copy-out-row-ones c = omega arith
-
-add-n : tie.Need-add-n Inv-loop μ-loop
-add-n c = omega (arith, c .row-ones .ensures .1)
-
-add-i : tie.Need-add-i Inv-loop μ-loop
-add-i c = omega arith
-
-loop-less : tie.Need-loop-less Inv-loop μ-loop
-loop-less c = omega arith
-
 loop-again : tie.Need-loop-again Inv-loop μ-loop
 loop-again c =
     let a = c .before .before .before .loop in
@@ -45,9 +26,6 @@ loop-again c =
       ap (λ (k : ℕ). a .n + k) (r .0) ∙ ones-next (c .before .before .before .before .args .t1) (a .n) (a .i) (omega arith) (a .inv .2),
     )
 
-cast-result : tie.Need-cast-result Inv-loop μ-loop
-cast-result c = omega arith
-
 returns : tie.Need-returns Inv-loop μ-loop
 returns c =
     let a = c .before .loop in
@@ -55,18 +33,9 @@ returns c =
     simp (a .inv .2, e)
 
 pub parity-of-spec : {M : Type 1} → statement M
+unfolding joined ones
 parity-of-spec =
     tie.close
     (tie.spec
-    Inv-loop
-    μ-loop
-    loop-holds
-    mul-row-ones
-    array-copy-out-row-ones
-    (λ c κs. search needs)
-    add-n
-    add-i
-    loop-less
-    loop-again
-    cast-result
-    returns)
+    Inv-loop μ-loop (λ c. (search needs, search needs, refl)) (λ c. omega arith) (λ c. omega arith) (λ c κs. search needs)
+    (λ c. omega (arith, c .row-ones .ensures .1)) (λ c. omega arith) (λ c. omega arith) loop-again (λ c. omega arith) returns)

@@ -18,28 +18,6 @@ Inv-loop out₀ rows i₀ out i = (i ≤ 10) × (length out ≡ length out₀) �
 abbrev μ-loop : tie.MeasureT-loop
 μ-loop out₀ rows i₀ out i = 10 - i
 
-loop-holds : tie.Need-loop-holds Inv-loop μ-loop
-unfolding joined
-loop-holds c = (search needs, refl, refl, refl)
-
-mul-put-row : tie.Need-mul-put-row Inv-loop μ-loop
-mul-put-row c = omega arith
-
-mul-put-row-2 : tie.Need-mul-put-row-2 Inv-loop μ-loop
-mul-put-row-2 c = omega arith
-
-array-copy-out-put-row : tie.Need-array-copy-out-put-row Inv-loop μ-loop
-array-copy-out-put-row c = omega arith
-
-put-row-requires : tie.Need-put-row-requires Inv-loop μ-loop
-put-row-requires c κs = omega arith
-
-add-i : tie.Need-add-i Inv-loop μ-loop
-add-i c = omega arith
-
-loop-less : tie.Need-loop-less Inv-loop μ-loop
-loop-less c = omega arith
-
 loop-again : tie.Need-loop-again Inv-loop μ-loop
 loop-again c =
     let b = c .before .before .before .before .before .before in
@@ -53,9 +31,6 @@ loop-again c =
       next-stored (a .t1) (b .loop .i) inside (b .loop .inv .2) (now (a .out)) (b .loop .out) _ (b .loop .inv .3) (r .0),
     )
 
-same-length : tie.Need-same-length Inv-loop μ-loop
-same-length c = c .before .loop .inv .1
-
 returns : tie.Need-returns Inv-loop μ-loop
 returns c =
     let a = c .before .loop in
@@ -64,18 +39,9 @@ returns c =
     a .inv .3 ∙ ap (sets (now (b .out)) 0) (joined-all (b .t1) (a .i) (omega arith))
 
 pub put-rows-spec : {M : Type 1} → statement M
+unfolding joined
 put-rows-spec =
     tie.close
     (tie.spec
-    Inv-loop
-    μ-loop
-    loop-holds
-    mul-put-row
-    mul-put-row-2
-    array-copy-out-put-row
-    put-row-requires
-    add-i
-    loop-less
-    loop-again
-    same-length
-    returns)
+    Inv-loop μ-loop (λ c. (search needs, refl, refl, refl)) (λ c. omega arith) (λ c. omega arith) (λ c. omega arith) (λ c κs. omega arith)
+    (λ c. omega arith) (λ c. omega arith) loop-again (λ c. c .before .loop .inv .1) returns)

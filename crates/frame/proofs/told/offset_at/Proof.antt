@@ -6,7 +6,8 @@ use mir.Syntax.{w32}
 use mir.Val.{SFits}
 use Rattle.record.specs.declared.Offset.the-variants as offsetIs
 use Rattle.record.specs.Sign.{signed}
-use Rattle.forms.specs.Spelled.{negative, offsetFrom}
+use Rattle.forms.specs.Fields.Offset.{offsetFrom}
+use Rattle.forms.specs.Fields.Sign.{negative}
 use Rattle.frame.proofs.Form.{sign-test}
 use borrow.Author.Needs.{needs}
 use Rattle.frame.proofs.told.offset_at.Statement.{statement}

@@ -7,11 +7,10 @@ use borrow.Author.Needs.{needs}
 use Rattle.frame.proofs.told.sync_at.Statement.{statement}
 use Rattle.frame.proofs.told.sync_at.Tie as tie
 
-returns : tie.Need-returns
-returns c = sym (sync-told (now (c .before .before .before .args .s)) _ (c .before .number-at .ensures .0) ∙ simp (eq-eqb _ 0 (c .if1 .taken)))
-
-returns-2 : tie.Need-returns-2
-returns-2 c = sym (sync-told (now (c .before .before .before .args .s)) _ (c .before .number-at .ensures .0) ∙ simp (ne-eqb _ 0 (c .if1 .left)))
-
 pub sync-at-spec : {M : Type 1} → statement M
-sync-at-spec = tie.close (tie.spec (λ c κs. search needs) returns returns-2)
+sync-at-spec =
+    tie.close
+    (tie.spec
+    (λ c κs. search needs)
+    (λ c. sym (sync-told (now (c .before .before .before .args .s)) _ (c .before .number-at .ensures .0) ∙ simp (eq-eqb _ 0 (c .if1 .taken))))
+    (λ c. sym (sync-told (now (c .before .before .before .args .s)) _ (c .before .number-at .ensures .0) ∙ simp (ne-eqb _ 0 (c .if1 .left)))))

@@ -4,11 +4,5 @@ use borrow.Author.Needs.{needs}
 use Rattle.layout.proofs.places.flag_at.Statement.{statement}
 use Rattle.layout.proofs.places.flag_at.Tie as tie
 
-returns : tie.Need-returns
-returns c = simp (eq-eqb _ _ (c .if1 .taken))
-
-returns-2 : tie.Need-returns-2
-returns-2 c = simp (ne-eqb _ _ (c .if1 .left))
-
 pub flag-at-spec : {M : Type 1} → statement M
-flag-at-spec = tie.close (tie.spec (λ c. search needs) returns returns-2)
+flag-at-spec = tie.close (tie.spec (λ c. search needs) (λ c. simp (eq-eqb _ _ (c .if1 .taken))) (λ c. simp (ne-eqb _ _ (c .if1 .left))))

@@ -6,8 +6,8 @@ use borrow.Author.Needs.{needs}
 use Rattle.layout.proofs.places.is_at.Statement.{statement}
 use Rattle.layout.proofs.places.is_at.Tie as tie
 
-returns : tie.Need-returns
-returns c = sym (same-byte (now (c .before .args .s)) (c .before .args .at) (c .before .pre) (c .before .args .b))
-
 pub is-at-spec : {M : Type 1} → statement M
-is-at-spec = tie.close (tie.spec (λ c. search needs) returns)
+is-at-spec =
+    tie.close
+    (tie.spec
+    (λ c. search needs) (λ c. sym (same-byte (now (c .before .args .s)) (c .before .args .at) (c .before .pre) (c .before .args .b))))

@@ -5,18 +5,11 @@ use borrow.Author.Needs.{needs}
 use Rattle.layout.proofs.places.padded_at.Statement.{statement}
 use Rattle.layout.proofs.places.padded_at.Tie as tie
 
-returns : tie.Need-returns
-returns c =
-    let a = c .before .before .before .args in
-    simp (part (now (a .s)) (a .at) (a .w)) at (c .are-padded .ensures)
-
 pub padded-at-spec : {M : Type 1} → statement M
 padded-at-spec =
     tie.close
     (tie.spec
-    (λ c. search needs)
-    (λ c. search needs)
-    (λ c. search needs)
-    (λ c. search needs)
-    (λ c κs. search needs)
-    returns)
+    (λ c. search needs) (λ c. search needs) (λ c. search needs) (λ c. search needs) (λ c κs. search needs)
+    (λ c.
+    let a = c .before .before .before .args in
+    simp (part (now (a .s)) (a .at) (a .w)) at (c .are-padded .ensures)))

@@ -3,20 +3,9 @@ use borrow.Author.Needs.{needs}
 use Rattle.layout.proofs.places.pairs_at.Statement.{statement}
 use Rattle.layout.proofs.places.pairs_at.Tie as tie
 
-returns : tie.Need-returns
-returns c = cc
-
 pub pairs-at-spec : {M : Type 1} → statement M
 pairs-at-spec =
     tie.close
     (tie.spec
-    (λ c κs. search needs)
-    (λ c. search needs)
-    (λ c κs. search needs)
-    (λ c. search needs)
-    (λ c κs. search needs)
-    (λ c. search needs)
-    (λ c κs. search needs)
-    (λ c. search needs)
-    (λ c κs. search needs)
-    returns)
+    (λ c κs. search needs) (λ c. search needs) (λ c κs. search needs) (λ c. search needs) (λ c κs. search needs) (λ c. search needs)
+    (λ c κs. search needs) (λ c. search needs) (λ c κs. search needs) (λ c. cc))

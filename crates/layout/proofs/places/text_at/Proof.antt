@@ -6,18 +6,11 @@ use Rattle.layout.proofs.Part.{part}
 use Rattle.layout.proofs.places.text_at.Statement.{statement}
 use Rattle.layout.proofs.places.text_at.Tie as tie
 
-returns : tie.Need-returns
-returns c =
-    let a = c .before .before .before .before .args in
-    simp (part (now (a .s)) (a .at) (length (now (a .text)))) at (c .same-bytes .ensures)
-
 pub text-at-spec : {M : Type 1} → statement M
 text-at-spec =
     tie.close
     (tie.spec
-    (λ c. search needs)
-    (λ c. search needs)
-    (λ c. search needs)
-    (λ c. search needs)
-    (λ c κs. search needs)
-    returns)
+    (λ c. search needs) (λ c. search needs) (λ c. search needs) (λ c. search needs) (λ c κs. search needs)
+    (λ c.
+    let a = c .before .before .before .before .args in
+    simp (part (now (a .s)) (a .at) (length (now (a .text)))) at (c .same-bytes .ensures)))

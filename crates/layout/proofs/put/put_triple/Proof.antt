@@ -2,17 +2,9 @@ use borrow.Author.Needs.{needs}
 use Rattle.layout.proofs.put.put_triple.Statement.{statement}
 use Rattle.layout.proofs.put.put_triple.Tie as tie
 
-returns : tie.Need-returns
-returns c = cc
-
 pub put-triple-spec : {M : Type 1} → statement M
 put-triple-spec =
     tie.close
     (tie.spec
-    (λ c κs. search needs)
-    (λ c. search needs)
-    (λ c κs. search needs)
-    (λ c. search needs)
-    (λ c κs. search needs)
-    (λ c. search needs)
-    returns)
+    (λ c κs. search needs) (λ c. search needs) (λ c κs. search needs) (λ c. search needs) (λ c κs. search needs) (λ c. search needs)
+    (λ c. cc))

@@ -3,10 +3,11 @@ use borrow.Author.Needs.{needs}
 use Rattle.layout.proofs.ties.falls_on.Statement.{statement}
 use Rattle.layout.proofs.ties.falls_on.Tie as tie
 
-returns : tie.Need-returns
-returns c = cc
-
 pub falls-on-spec : {M : Type 1} → statement M
 falls-on-spec =
     tie.close
-    (tie.spec (λ c κs. search needs) (λ c κs. search needs) (λ c κs. search needs) (λ c κs. search needs) returns)
+    (tie.spec
+    (λ c κs. search needs) (λ c κs. search needs) (λ c κs. search needs) (λ c κs. search needs)
+    (λ c.
+    let k = c .before .before in
+    simp (c .weekday-agrees .ensures, c .before .day-of .ensures, k .month-of .ensures, k .before .year-of .ensures)))

@@ -18,5 +18,4 @@ returns-2 c =
     none-agrees (isDate (a .year) (a .month) (a .day)) _ (weekdayOf (a .year) (a .month) (a .day)) (sym (c .before .before .weekday .ensures) ∙ c .enum-told .given .1)
 
 pub weekday-agrees-spec : {M : Type 1} → statement M
-weekday-agrees-spec =
-    tie.close (tie.spec (λ c κs. search needs) (λ c. search needs) (λ c. search needs) returns returns-2)
+weekday-agrees-spec = tie.close (tie.spec (λ c κs. search needs) (λ c. search needs) (λ c. search needs) returns returns-2)

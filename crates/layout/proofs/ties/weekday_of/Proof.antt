@@ -1,7 +1,7 @@
 -- The calendar answers a number for a date that exists.
 use mathlib.Core.Path.{_≡_}
 use Rattle.calendar.specs.declared.Day.the-variants as dayIs
-use Rattle.forms.specs.Told.{dayTold, monthTold, yearTold}
+use Rattle.forms.specs.Fields.Date.{dayTold, monthTold, yearTold}
 use Rattle.calendar.specs.Answers.{weekdayIn}
 use Rattle.fields.proofs.Dates.{none-of, number-of}
 use Rattle.layout.specs.Weekday.{exists, weekdayTold}
@@ -25,11 +25,5 @@ pub weekday-of-spec : {M : Type 1} → statement M
 weekday-of-spec =
     tie.close
     (tie.spec
-    (λ c κs. search needs)
-    (λ c κs. search needs)
-    (λ c κs. search needs)
-    (λ c κs. search needs)
-    (λ c. search needs)
-    (λ c. search needs)
-    returns
-    returns-2)
+    (λ c κs. search needs) (λ c κs. search needs) (λ c κs. search needs) (λ c κs. search needs) (λ c. search needs) (λ c. search needs)
+    returns returns-2)

@@ -15,44 +15,26 @@ Inv-loop bytes listener₀ i₀ listener i = (i ≤ length bytes) × (runOf list
 abbrev μ-loop : tie.MeasureT-loop
 μ-loop bytes listener₀ i₀ listener i = length bytes - i
 
-loop-holds : tie.Need-loop-holds Inv-loop μ-loop
-loop-holds c = (omega arith, behind-none _)
-
-add-i : tie.Need-add-i Inv-loop μ-loop
-add-i c = omega arith
-
 returns : tie.Need-returns Inv-loop μ-loop
 returns c =
     let q = c .before .before .before .before .before .before .loop in
     let fed = c .before .before .before .feed .ensures in
-    answered _ (q .listener) _ (q .i) (q .inv .1) (omega arith) (sym (ap isAnswer (fed .answer)) ∙ sym (c .before .is-answer .ensures) ∙ c .if1 .taken) _ (fed .answer) _ (fed .next)
-
-loop-less : tie.Need-loop-less Inv-loop μ-loop
-loop-less c = omega arith
+    let told = sym (ap isAnswer (fed .answer)) ∙ sym (c .before .is-answer .ensures) ∙ c .if1 .taken in
+    answered _ (q .listener) _ (q .i) (q .inv .1) (omega arith) told _ (fed .answer) _ (fed .next)
 
 loop-again : tie.Need-loop-again Inv-loop μ-loop
 loop-again c =
     let q = c .before .before .before .before .before .before .loop in
     let fed = c .before .before .before .feed .ensures in
-    (omega arith, goes-on _ (q .listener) _ (q .i) (q .inv .1) (omega arith) (sym (ap isAnswer (fed .answer)) ∙ sym (c .before .is-answer .ensures) ∙ c .if1 .left) ∙ rw (fed .next))
-
-returns-2 : tie.Need-returns-2 Inv-loop μ-loop
-returns-2 c =
-    let q = c .before .loop in
-    ended _ (q .listener) _ (q .i) (q .inv .1) (omega arith) (q .inv .0)
+    let none = sym (ap isAnswer (fed .answer)) ∙ sym (c .before .is-answer .ensures) ∙ c .if1 .left in
+    (omega arith, goes-on _ (q .listener) _ (q .i) (q .inv .1) (omega arith) none ∙ rw (fed .next))
 
 pub feed-until-spec : {M : Type 1} → statement M
 feed-until-spec =
     tie.close
     (tie.spec
-    Inv-loop
-    μ-loop
-    loop-holds
-    (λ c. search needs)
-    (λ c κs. search needs)
-    add-i
-    (λ c κs. search needs)
-    returns
-    loop-less
-    loop-again
-    returns-2)
+    Inv-loop μ-loop (λ c. (omega arith, behind-none _)) (λ c. search needs) (λ c κs. search needs) (λ c. omega arith) (λ c κs. search needs)
+    returns (λ c. omega arith) loop-again
+    (λ c.
+    let q = c .before .loop in
+    ended _ (q .listener) _ (q .i) (q .inv .1) (omega arith) (q .inv .0)))

@@ -4,9 +4,9 @@ use Rattle.record.specs.Record.{isGood}
 use Rattle.record.proofs.Record.is_good.Statement.{statement}
 use Rattle.record.proofs.Record.is_good.Tie as tie
 
-returns : tie.Need-returns
-unfolding isGood
-returns c = simp (c .zone-agrees .ensures, c .before .in-range .ensures)
-
 pub is-good-spec : {M : Type 1} → statement M
-is-good-spec = tie.close (tie.spec (λ c κs. search needs) (λ c κs. search needs) returns)
+unfolding isGood
+is-good-spec =
+    tie.close
+    (tie.spec
+    (λ c κs. search needs) (λ c κs. search needs) (λ c. simp (c .zone-agrees .ensures, c .before .in-range .ensures)))

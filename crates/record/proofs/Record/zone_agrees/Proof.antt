@@ -4,9 +4,9 @@ use Rattle.record.specs.Record.{zoneAgrees}
 use Rattle.record.proofs.Record.zone_agrees.Statement.{statement}
 use Rattle.record.proofs.Record.zone_agrees.Tie as tie
 
-returns : tie.Need-returns
-unfolding zoneAgrees
-returns c = simp (c .is-yes2 .ensures, c .before .is-yes .ensures)
-
 pub zone-agrees-spec : {M : Type 1} → statement M
-zone-agrees-spec = tie.close (tie.spec (λ c κs. search needs) (λ c κs. search needs) returns)
+unfolding zoneAgrees
+zone-agrees-spec =
+    tie.close
+    (tie.spec
+    (λ c κs. search needs) (λ c κs. search needs) (λ c. simp (c .is-yes2 .ensures, c .before .is-yes .ensures)))

@@ -5,13 +5,9 @@ use Rattle.record.specs.Record.{channelInRange}
 use Rattle.record.proofs.range.channel_in_range.Statement.{statement}
 use Rattle.record.proofs.range.channel_in_range.Tie as tie
 
-returns : tie.Need-returns
-unfolding channelInRange
-returns c = search needs
-
-returns-2 : tie.Need-returns-2
-unfolding channelInRange
-returns-2 c = sym (ap channelInRange (c .before .channel .given .1))
-
 pub channel-in-range-spec : {M : Type 1} → statement M
-channel-in-range-spec = tie.close (tie.spec (λ c. search needs) (λ c. search needs) returns returns-2)
+unfolding channelInRange
+channel-in-range-spec =
+    tie.close
+    (tie.spec
+    (λ c. search needs) (λ c. search needs) (λ c. search needs) (λ c. sym (ap channelInRange (c .before .channel .given .1))))

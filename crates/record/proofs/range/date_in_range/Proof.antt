@@ -5,26 +5,11 @@ use Rattle.record.specs.Record.{dateInRange}
 use Rattle.record.proofs.range.date_in_range.Statement.{statement}
 use Rattle.record.proofs.range.date_in_range.Tie as tie
 
-returns : tie.Need-returns
-unfolding dateInRange
-returns c = search needs
-
-returns-2 : tie.Need-returns-2
-unfolding dateInRange
-returns-2 c = c .is-date .ensures ∙ sym (ap dateInRange (c .before .before .date .given .1))
-
-returns-3 : tie.Need-returns-3
-unfolding dateInRange
-returns-3 c = sym (ap dateInRange (c .before .date2 .given .1))
-
 pub date-in-range-spec : {M : Type 1} → statement M
+unfolding dateInRange
 date-in-range-spec =
     tie.close
     (tie.spec
-    (λ c. search needs)
-    (λ c. search needs)
-    (λ c κs. search needs)
-    (λ c. search needs)
-    returns
-    returns-2
-    returns-3)
+    (λ c. search needs) (λ c. search needs) (λ c κs. search needs) (λ c. search needs) (λ c. search needs)
+    (λ c. c .is-date .ensures ∙ sym (ap dateInRange (c .before .before .date .given .1)))
+    (λ c. sym (ap dateInRange (c .before .date2 .given .1))))

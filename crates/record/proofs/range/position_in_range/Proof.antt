@@ -7,10 +7,6 @@ use Rattle.record.specs.Record.{positionInRange}
 use Rattle.record.proofs.range.position_in_range.Statement.{statement}
 use Rattle.record.proofs.range.position_in_range.Tie as tie
 
-returns : tie.Need-returns
-unfolding positionInRange
-returns c = search needs
-
 returns-2 : tie.Need-returns-2
 unfolding positionInRange
 returns-2 c =
@@ -19,12 +15,8 @@ returns-2 c =
     simp (c .magnitude2 .ensures, c .before .magnitude .ensures, toZ-ofZ latitude, toZ-ofZ longitude, c .before .before .before .position .given .1)
 
 pub position-in-range-spec : {M : Type 1} → statement M
+unfolding positionInRange
 position-in-range-spec =
     tie.close
     (tie.spec
-    (λ c. search needs)
-    (λ c. search needs)
-    (λ c κs. search needs)
-    (λ c κs. search needs)
-    returns
-    returns-2)
+    (λ c. search needs) (λ c. search needs) (λ c κs. search needs) (λ c κs. search needs) (λ c. search needs) returns-2)

@@ -4,9 +4,6 @@ use Rattle.record.specs.Record.{timeInRange}
 use Rattle.record.proofs.range.time_in_range.Statement.{statement}
 use Rattle.record.proofs.range.time_in_range.Tie as tie
 
-returns : tie.Need-returns
-unfolding timeInRange
-returns c = search needs
-
 pub time-in-range-spec : {M : Type 1} → statement M
-time-in-range-spec = tie.close (tie.spec returns)
+unfolding timeInRange
+time-in-range-spec = tie.close (tie.spec (λ c. search needs))

@@ -3,8 +3,5 @@ use Rattle.record.proofs.Signs.{test-negative}
 use Rattle.record.proofs.sign.is_negative.Statement.{statement}
 use Rattle.record.proofs.sign.is_negative.Tie as tie
 
-returns : tie.Need-returns
-returns c = test-negative (c .args .z) (c .fits .z)
-
 pub is-negative-spec : {M : Type 1} → statement M
-is-negative-spec = tie.close (tie.spec returns)
+is-negative-spec = tie.close (tie.spec (λ c. test-negative (c .args .z) (c .fits .z)))

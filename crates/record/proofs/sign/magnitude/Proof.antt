@@ -24,16 +24,6 @@ module _ (z : ℤ) (h : SFits w32 z) where
   opposite : toZ w64 (ofZ w64 (pos 0 -ℤ toZ w64 (ofZ w64 (toZ w32 (ofZ w32 z))))) ≡ negℤ z
   opposite = ap (λ x. toZ w64 (ofZ w64 x)) difference ∙ toZ-ofZ opposite-fits
 
-cast-result : tie.Need-cast-result
-cast-result c =
-    let h = c .before .fits .z in
-    subst (SFits w64) (sym (toZ-ofZ h)) (sfits-widen tt h)
-
-sub-result : tie.Need-sub-result
-sub-result c =
-    let h = c .before .fits .z in
-    subst (SFits w64) (sym (difference _ h)) (opposite-fits _ h)
-
 cast-result-2 : tie.Need-cast-result-2
 cast-result-2 c =
     let z = c .before .args .z in
@@ -48,9 +38,15 @@ cast-result-3 c =
     subst (λ x. T (nonNeg x) × Fits w32 (natAbs x)) (sym (toZ-ofZ h))
     (not-negative z (sym (test-negative z h) ∙ c .if1 .left), fits-natAbs tt h)
 
-returns : tie.Need-returns
-returns c = ap natAbs (opposite _ (c .before .fits .z)) ∙ natAbs-opposite (c .before .args .z)
-
 pub magnitude-spec : {M : Type 1} → statement M
 magnitude-spec =
-    tie.close (tie.spec cast-result sub-result cast-result-2 cast-result-3 returns (λ c. search needs))
+    tie.close
+    (tie.spec
+    (λ c.
+    let h = c .before .fits .z in
+    subst (SFits w64) (sym (toZ-ofZ h)) (sfits-widen tt h))
+    (λ c.
+    let h = c .before .fits .z in
+    subst (SFits w64) (sym (difference _ h)) (opposite-fits _ h))
+    cast-result-2 cast-result-3 (λ c. ap natAbs (opposite _ (c .before .fits .z)) ∙ natAbs-opposite (c .before .args .z))
+    (λ c. search needs))

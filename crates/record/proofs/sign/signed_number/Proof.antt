@@ -23,19 +23,18 @@ module _ (n : ℕ) (h : n ≤ 2147483647) where
   opposite-fits : SFits w32 (negℤ (pos n))
   opposite-fits = omega (arith, mag-opposite (pos n))
 
-sub-result : tie.Need-sub-result
-sub-result c = subst (SFits w32) (sym (difference _ (c .before .pre))) (opposite-fits _ (c .before .pre))
-
 returns : tie.Need-returns
 returns c =
     let n = c .before .args .n in
     let h = c .before .pre in
     ap (λ x. toZ w32 (ofZ w32 x)) (difference n h) ∙ toZ-ofZ (opposite-fits n h) ∙ opposite-signed n ∙ ap (λ b. signed b n) (sym (c .if1 .taken))
 
-returns-2 : tie.Need-returns-2
-returns-2 c =
-    let n = c .before .args .n in
-    plain n (c .before .pre) ∙ ap (λ b. signed b n) (sym (c .if1 .left))
-
 pub signed-number-spec : {M : Type 1} → statement M
-signed-number-spec = tie.close (tie.spec (λ c. search needs) sub-result (λ c. search needs) returns returns-2)
+signed-number-spec =
+    tie.close
+    (tie.spec
+    (λ c. search needs) (λ c. subst (SFits w32) (sym (difference _ (c .before .pre))) (opposite-fits _ (c .before .pre)))
+    (λ c. search needs) returns
+    (λ c.
+    let n = c .before .args .n in
+    plain n (c .before .pre) ∙ ap (λ b. signed b n) (sym (c .if1 .left))))

@@ -5,8 +5,8 @@ use Rattle.search.specs.Answer.{findingPlace}
 use Rattle.search.proofs.Finding.place.Statement.{statement}
 use Rattle.search.proofs.Finding.place.Tie as tie
 
-returns : tie.Need-returns
-returns c = sym (ap findingPlace (c .before .self .given .1))
-
 pub place-spec : {M : Type 1} → statement M
-place-spec = tie.close (tie.spec (λ c. search needs) (λ c. search needs) returns (λ c. search needs))
+place-spec =
+    tie.close
+    (tie.spec
+    (λ c. search needs) (λ c. search needs) (λ c. sym (ap findingPlace (c .before .self .given .1))) (λ c. search needs))

@@ -1,21 +1,14 @@
 -- The two digits of the sum are compared with the sum of the bytes.
-use Rattle.forms.specs.Form.{sumHolds}
+use Rattle.forms.specs.Checksum.{checksumsHold}
 use Rattle.forms.specs.Places.{values}
 use borrow.Author.Needs.{needs}
 use Rattle.spa.proofs.sum.sum_holds.Statement.{statement}
 use Rattle.spa.proofs.sum.sum_holds.Tie as tie
 
-returns : tie.Need-returns
-unfolding sumHolds values
-returns c = simp (c .before .hex-number .ensures .0, c .sum-of .ensures)
-
 pub sum-holds-spec : {M : Type 1} → statement M
+unfolding checksumsHold values
 sum-holds-spec =
     tie.close
     (tie.spec
-    (λ c. search needs)
-    (λ c. search needs)
-    (λ c. search needs)
-    (λ c κs. search needs)
-    (λ c κs. search needs)
-    returns)
+    (λ c. search needs) (λ c. search needs) (λ c. search needs) (λ c κs. search needs) (λ c κs. search needs)
+    (λ c. simp (c .before .hex-number .ensures .0, c .sum-of .ensures)))

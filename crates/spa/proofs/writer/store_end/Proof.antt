@@ -3,9 +3,5 @@ use borrow.Author.Needs.{needs}
 use Rattle.spa.proofs.writer.store_end.Statement.{statement}
 use Rattle.spa.proofs.writer.store_end.Tie as tie
 
-returns : tie.Need-returns
-returns c = cc
-
 pub store-end-spec : {M : Type 1} → statement M
-store-end-spec =
-    tie.close (tie.spec (λ c κs. search needs) (λ c κs. search needs) (λ c κs. search needs) (λ c. search needs) returns)
+store-end-spec = tie.close (tie.spec (λ c κs. search needs) (λ c κs. search needs) (λ c κs. search needs) (λ c. search needs) (λ c. cc))

@@ -5,11 +5,9 @@ use Rattle.record.specs.Answers.{readRecord}
 use Rattle.record.proofs.answer.Reading.record.Statement.{statement}
 use Rattle.record.proofs.answer.Reading.record.Tie as tie
 
-returns : tie.Need-returns
-returns c = sym (ap readRecord (c .before .self .given .1))
-
-returns-2 : tie.Need-returns-2
-returns-2 c = c .empty .ensures ∙ sym (ap readRecord (c .before .enum-told .given .1))
-
 pub record-spec : {M : Type 1} → statement M
-record-spec = tie.close (tie.spec (λ c. search needs) (λ c. search needs) (λ c κs. search needs) returns returns-2)
+record-spec =
+    tie.close
+    (tie.spec
+    (λ c. search needs) (λ c. search needs) (λ c κs. search needs) (λ c. sym (ap readRecord (c .before .self .given .1)))
+    (λ c. c .empty .ensures ∙ sym (ap readRecord (c .before .enum-told .given .1))))

@@ -1,0 +1,123 @@
+/*
+ * Prints the time strings that are heard in a serial log as CSV: a header line, then a line for each record, with
+ * empty cells for fields that were not sent.
+ *
+ *     heard_csv FORM [FILE]      FORM is 1..7; standard input where no file is named
+ *
+ *     cc -O2 -std=c99 -Ibindings/c/include bindings/c/examples/heard_csv.c target/staticlib/liblindenscoop.a -o heard_csv
+ */
+#include <stdio.h>
+
+#include "lindenscoop.h"
+
+static const char header[] =
+#include "../../heard_csv.columns"
+    ;
+
+static void print_flag(uint32_t flag)
+{
+    static const char *const words[] = {"", "no", "yes"};
+    printf(",%s", words[flag]);
+}
+
+static void print_time(const lindenscoop_record *r)
+{
+    if (r->date == LINDENSCOOP_FULL_DATE)
+        printf("20%02u-%02u-%02u", (unsigned)r->year, (unsigned)r->month, (unsigned)r->day);
+    printf(",");
+    if (r->date == LINDENSCOOP_DAY_OF_YEAR)
+        printf("%u", (unsigned)r->day_of_year);
+    printf(",%02u:%02u:%02u,", (unsigned)r->hour, (unsigned)r->minute, (unsigned)r->second);
+    if (r->fraction == LINDENSCOOP_THOUSANDTHS)
+        printf("0.%03u", (unsigned)r->fraction_value);
+    if (r->fraction == LINDENSCOOP_TEN_MILLIONTHS)
+        printf("0.%07u", (unsigned)r->fraction_value);
+    printf(",");
+    if (r->channel == LINDENSCOOP_PRESENT)
+        printf("%u", (unsigned)r->channel_number);
+}
+
+/* Ten-thousandths of a degree as degrees. */
+static void print_degrees(uint32_t negative, uint32_t magnitude)
+{
+    printf(",%s%u.%04u", negative ? "-" : "", (unsigned)(magnitude / 10000), (unsigned)(magnitude % 10000));
+}
+
+static void print_place(const lindenscoop_record *r)
+{
+    printf(",");
+    if (r->offset == LINDENSCOOP_PRESENT)
+        printf("%c%02u:%02u", r->offset_negative ? '-' : '+', (unsigned)(r->offset_minutes / 60), (unsigned)(r->offset_minutes % 60));
+    if (r->position == LINDENSCOOP_PRESENT) {
+        print_degrees(r->south, r->latitude);
+        print_degrees(r->west, r->longitude);
+        printf(",%u", (unsigned)r->altitude);
+    } else {
+        printf(",,,");
+    }
+}
+
+static void print_record(const lindenscoop_record *r)
+{
+    print_time(r);
+    print_flag(r->sync);
+    print_flag(r->fix);
+    print_flag(r->utc);
+    print_flag(r->summer);
+    print_flag(r->change);
+    print_flag(r->leap);
+    print_place(r);
+    print_flag(r->dsp);
+    print_flag(r->lsp);
+    printf("\n");
+}
+
+/* Feeds a part of the log, and prints each record at the byte that completes it. */
+static void hear(lindenscoop_listener *listener, const unsigned char *bytes, size_t length)
+{
+    size_t at = 0;
+    while (at < length) {
+        lindenscoop_record record;
+        size_t used = 0;
+        if (lindenscoop_feed_all(listener, bytes + at, length - at, &used, &record) == LINDENSCOOP_HEARD)
+            print_record(&record);
+        at += used;
+    }
+}
+
+/* The form that a word names by its digit, 0 for any other word. */
+static uint32_t form_of(const char *word)
+{
+    return '0' <= word[0] && word[0] <= '9' && word[1] == '\0' ? (uint32_t)(word[0] - '0') : 0;
+}
+
+int main(int argc, char **argv)
+{
+    lindenscoop_listener listener;
+    unsigned char part[4096];
+    size_t got;
+    uint32_t answer;
+    FILE *log = stdin;
+
+    if (argc < 2 || argc > 3) {
+        fprintf(stderr, "usage: heard_csv FORM [FILE]\n");
+        return 2;
+    }
+    answer = lindenscoop_start(form_of(argv[1]), &listener);
+    if (answer != LINDENSCOOP_OK) {
+        fprintf(stderr, "heard_csv: form %s: refused with %u: %s\n", argv[1], (unsigned)answer, lindenscoop_message(answer));
+        return 1;
+    }
+    if (argc == 3 && !(log = fopen(argv[2], "rb"))) {
+        perror(argv[2]);
+        return 1;
+    }
+    printf("%s\n", header);
+    while ((got = fread(part, 1, sizeof part, log)) > 0)
+        hear(&listener, part, got);
+    if (ferror(log)) {
+        perror("heard_csv");
+        return 1;
+    }
+    return fflush(stdout) ? 1 : 0;
+}

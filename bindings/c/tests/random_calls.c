@@ -1,0 +1,381 @@
+/*
+ * Random calls of every exported function, repeatable by a seed:  random_calls [SEED [CALLS]]
+ *
+ * The library is not instrumented by the sanitizers, so each buffer lent to it ends at a page that cannot be touched,
+ * or starts behind one, and what is left of its own pages is filled and compared after the call.
+ */
+#define _DEFAULT_SOURCE
+#include <stdio.h>
+#include <stdlib.h>
+#include <string.h>
+#include <sys/mman.h>
+#include <unistd.h>
+
+#include "lindenscoop.h"
+
+#define CHECK(test) ((test) ? (void)0 : fail(__LINE__, #test))
+
+static unsigned long long seed = 1, calls, drawn;
+static unsigned answers[128];
+
+static void fail(int line, const char *test)
+{
+    fprintf(stderr, "random_calls: line %d, seed %llu, call %llu: not %s\n", line, seed, calls, test);
+    exit(1);
+}
+
+static uint32_t draw(uint32_t below)
+{
+    drawn += 0x9e3779b97f4a7c15ull;
+    unsigned long long x = drawn;
+    x = (x ^ (x >> 30)) * 0xbf58476d1ce4e5b9ull;
+    x = (x ^ (x >> 27)) * 0x94d049bb133111ebull;
+    return (uint32_t)((x ^ (x >> 31)) >> 32) % below;
+}
+
+/* ---- Buffers between two pages that cannot be touched ---- */
+
+enum { PLACES = 4, ROOM = 4096, FILLING = 0xa5 };
+
+/* The sizes of a record and of a listener's state, and where the numbers behind the ring stand in it */
+enum { NUMBERS = LINDENSCOOP_RECORD_NUMBERS, STATE = LINDENSCOOP_LISTENER_BYTES, AT = 66, KEPT, DISTANCE, FORM };
+
+static unsigned char *rooms[PLACES];
+static unsigned char *lent[PLACES];
+static size_t sizes[PLACES];
+
+static void make_rooms(void)
+{
+    size_t page = (size_t)sysconf(_SC_PAGESIZE);
+    for (int i = 0; i < PLACES; i++) {
+        unsigned char *base = mmap(NULL, ROOM + 2 * page, PROT_NONE, MAP_PRIVATE | MAP_ANONYMOUS, -1, 0);
+        if (base == MAP_FAILED || mprotect(base + page, ROOM, PROT_READ | PROT_WRITE)) {
+            perror("mmap");
+            exit(2);
+        }
+        rooms[i] = base + page;
+    }
+}
+
+/* A buffer of so many bytes, with these in it (or the filling) */
+static void *lend(int place, const void *bytes, size_t size)
+{
+    memset(rooms[place], FILLING, ROOM);
+    lent[place] = draw(2) ? rooms[place] : rooms[place] + ROOM - size;
+    sizes[place] = size;
+    if (bytes)
+        memcpy(lent[place], bytes, size);
+    return lent[place];
+}
+
+static int filled(const unsigned char *from, const unsigned char *to)
+{
+    while (from < to)
+        if (*from++ != FILLING)
+            return 0;
+    return 1;
+}
+
+static void check_rooms(void)
+{
+    for (int i = 0; i < PLACES; i++)
+        CHECK(!lent[i] || (filled(rooms[i], lent[i]) && filled(lent[i] + sizes[i], rooms[i] + ROOM)));
+}
+
+/* ---- Records and strings ---- */
+
+static uint32_t sometimes(uint32_t usual, uint32_t other)
+{
+    return draw(40) ? usual : other;
+}
+
+static void random_record(lindenscoop_record *r)
+{
+    uint32_t *row = (uint32_t *)r;
+    memset(r, 0, sizeof *r);
+    r->hour = sometimes(draw(24), draw(30));
+    r->minute = draw(60);
+    r->second = sometimes(draw(61), 61);
+    r->date = sometimes(1 + draw(2), draw(5));
+    r->year = draw(100);
+    r->month = sometimes(1 + draw(12), draw(14));
+    r->day = 1 + draw(28 + !draw(20) * 4);
+    r->day_of_year = 1 + draw(366);
+    r->fraction = sometimes(1 + draw(2), draw(5));
+    r->fraction_value = sometimes(draw(1000), draw(10000001));
+    r->channel = sometimes(1, draw(4));
+    r->channel_number = sometimes(draw(2), 2);
+    for (int i = 12; i < 18; i++)
+        row[i] = sometimes(1 + draw(2), draw(5));
+    if (draw(8))
+        r->utc = 1;
+    r->dsp = sometimes(1 + draw(2), draw(4));
+    r->lsp = sometimes(1 + draw(2), draw(4));
+    lindenscoop_set_offset(r, (int32_t)draw(57) * 30 - 840);
+    lindenscoop_set_position(r, (int32_t)draw(1800001) - 900000, (int32_t)draw(3600001) - 1800000, sometimes(draw(10000), 10000));
+    if (!draw(30))
+        row[draw(NUMBERS)] = draw(2) ? draw(3) : 0xffffffffu - draw(2) * 0x7fffffffu;
+}
+
+static uint32_t random_form(void)
+{
+    return sometimes(1 + draw(9), draw(2) ? draw(12) : 0xffffffffu);
+}
+
+/* Bytes with strings of the form among them */
+static size_t random_bytes(uint32_t form, unsigned char *bytes, size_t most)
+{
+    size_t length = 0;
+    while (length < most && draw(6)) {
+        lindenscoop_record r;
+        size_t written = 0;
+        random_record(&r);
+        if (draw(3) && lindenscoop_write(form, &r, bytes + length, most - length, &written) == 0)
+            length += written;
+        else
+            bytes[length++] = (unsigned char)(draw(2) ? draw(256) : 32 + draw(30));
+    }
+    if (length && !draw(3))
+        bytes[draw((uint32_t)length)] ^= (unsigned char)(1u << draw(8));
+    return length;
+}
+
+/* One string of the form, at times damaged or a byte short; none where the form cannot say the records drawn */
+static size_t random_string(uint32_t form, unsigned char *bytes, size_t most)
+{
+    size_t length = 0;
+    for (int i = 0; i < 20 && length == 0; i++) {
+        lindenscoop_record r;
+        random_record(&r);
+        lindenscoop_write(form, &r, bytes, most, &length);
+    }
+    if (length && !draw(3))
+        bytes[draw((uint32_t)length)] ^= (unsigned char)(1u << draw(4));
+    return length && !draw(20) ? length - 1 : length;
+}
+
+/* ---- Calls ---- */
+
+static uint32_t seen(uint32_t answer)
+{
+    CHECK(answer < 128);
+    answers[answer]++;
+    check_rooms();
+    return answer;
+}
+
+/* Every so often one number or byte too few, or none at all */
+static size_t cut(size_t whole)
+{
+    return draw(12) ? whole + draw(3) : draw(2) ? whole - 1 : 0;
+}
+
+static int is_filled(const void *buffer, size_t size)
+{
+    return filled((const unsigned char *)buffer, (const unsigned char *)buffer + size);
+}
+
+static void call_read(void)
+{
+    unsigned char bytes[400];
+    uint32_t form = random_form();
+    size_t length = draw(4) ? random_string(form, bytes, 174) : random_bytes(form, bytes, 400);
+    size_t row_length = cut(NUMBERS);
+    uint8_t *input = lend(0, bytes, length);
+    uint32_t *row = lend(1, NULL, 4 * row_length);
+    uint32_t answer = seen(lindenscoop_read_raw(form, input, length, row, row_length));
+    CHECK(memcmp(input, bytes, length) == 0);
+    CHECK((answer == 10) == (row_length < NUMBERS));
+    if (answer == 10)
+        CHECK(is_filled(row, 4 * row_length));
+    else if (answer != 0)
+        for (int i = 0; i < NUMBERS; i++)
+            CHECK(row[i] == 0);
+    CHECK(answer == 10 || is_filled(row + NUMBERS, 4 * (row_length - NUMBERS)));
+}
+
+static void call_write(void)
+{
+    lindenscoop_record r, back;
+    size_t written_there = 77, row_length = draw(20) ? NUMBERS : draw(NUMBERS), length = draw(3) ? 118 + draw(60) : draw(120);
+    uint32_t form = random_form();
+    random_record(&r);
+    const uint32_t *row = lend(0, &r, 4 * row_length);
+    uint8_t *out = lend(1, NULL, length);
+    size_t *written = lend(2, &written_there, sizeof written_there);
+    uint32_t answer = seen(lindenscoop_write_raw(form, row, row_length, out, length, written));
+    CHECK(row_length == NUMBERS || answer == 7 || answer == 1);
+    CHECK(answer == 0 || *written == 0);
+    CHECK(*written <= length && is_filled(out + *written, length - *written));
+    if (answer == 0)
+        CHECK(lindenscoop_read(form, out, *written, &back) == 0 && back.hour == r.hour && back.minute == r.minute && back.second == r.second);
+}
+
+static void call_search(void)
+{
+    unsigned char bytes[400];
+    uint32_t form = random_form();
+    size_t length = draw(3) ? random_bytes(form, bytes, 400) : random_string(form, bytes, 400);
+    size_t start = draw(10) ? draw(2) * draw(80) : draw(2) ? length : SIZE_MAX - draw(70);
+    size_t row_length = cut(NUMBERS), place_there = 77;
+    uint8_t *input = lend(0, bytes, length);
+    uint32_t *row = lend(1, NULL, 4 * row_length);
+    size_t *place = lend(2, &place_there, sizeof place_there);
+    uint32_t answer = seen(lindenscoop_search_raw(form, input, length, start, place, row, row_length));
+    CHECK((answer == 10) == (row_length < NUMBERS));
+    CHECK(answer == 0 ? *place >= start && *place < length : *place == (answer == 10 ? 77 : 0));
+    CHECK(answer == 10 ? is_filled(row, 4 * row_length) : is_filled(row + NUMBERS, 4 * (row_length - NUMBERS)));
+}
+
+/* A state: started, or any bytes */
+static void random_state(uint32_t form, unsigned char *state)
+{
+    lindenscoop_listener listener;
+    for (int i = 0; i < STATE; i++)
+        state[i] = (unsigned char)draw(256);
+    if (draw(3)) {
+        lindenscoop_start(form, &listener);
+        memcpy(state, listener.bytes, STATE);
+    } else if (draw(4)) {
+        state[AT] = (unsigned char)draw(80);
+        state[KEPT] = (unsigned char)draw(34);
+        state[DISTANCE] = (unsigned char)draw(34);
+        state[FORM] = (unsigned char)(1 + draw(7));
+    }
+}
+
+static void call_start(void)
+{
+    uint32_t form = random_form();
+    size_t length = cut(STATE);
+    uint8_t *state = lend(0, NULL, length);
+    uint32_t answer = seen(lindenscoop_start_raw(form, state, length));
+    CHECK(answer == (length < STATE ? 10u : form < 1 || 7 < form ? 1u : 0u));
+    CHECK(answer == 10 ? is_filled(state, length) : is_filled(state + STATE, length - STATE));
+    CHECK(answer == 10 || state[FORM] == (answer ? 0 : form));
+}
+
+/* All at once and byte by byte come to the same */
+static void call_feed(void)
+{
+    unsigned char bytes[400], before[STATE + 2];
+    lindenscoop_record record;
+    lindenscoop_listener one;
+    uint32_t form = sometimes(1 + draw(7), draw(12)), answer, single = 0;
+    size_t length = random_bytes(form, bytes, 400), state_length = cut(STATE), row_length = cut(NUMBERS), used_there = 77, i = 0;
+    memset(before, FILLING, sizeof before);
+    random_state(form, before);
+    uint8_t *state = lend(0, before, state_length);
+    uint8_t *input = lend(1, bytes, length);
+    uint32_t *row = lend(2, NULL, 4 * row_length);
+    size_t *used = lend(3, &used_there, sizeof used_there);
+    answer = seen(lindenscoop_feed_all_raw(state, state_length, input, length, used, row, row_length));
+    if (answer == 10) {
+        CHECK(state_length < STATE || row_length < NUMBERS);
+        CHECK(*used == 77 && memcmp(state, before, state_length) == 0 && is_filled(row, 4 * row_length));
+        return;
+    }
+    memcpy(one.bytes, before, STATE);
+    while (i < length && single == 0)
+        single = lindenscoop_feed(&one, bytes[i++], &record);
+    CHECK(answer == single && *used == i && memcmp(state, one.bytes, STATE) == 0);
+    CHECK(answer == 100 ? memcmp(row, &record, sizeof record) == 0 : is_filled(row, 4 * row_length));
+    CHECK(is_filled(row + NUMBERS, 4 * (row_length - NUMBERS)) && is_filled(state + STATE, state_length - STATE));
+}
+
+/* One byte at the edge of short buffers */
+static void call_feed_byte(void)
+{
+    unsigned char before[STATE + 2];
+    size_t state_length = cut(STATE), row_length = cut(NUMBERS);
+    memset(before, FILLING, sizeof before);
+    random_state(1 + draw(7), before);
+    uint8_t *state = lend(0, before, state_length);
+    uint32_t *row = lend(1, NULL, 4 * row_length);
+    uint32_t answer = seen(lindenscoop_feed_raw(state, state_length, (uint8_t)draw(256), row, row_length));
+    CHECK((answer == 10) == (state_length < STATE || row_length < NUMBERS));
+    CHECK(answer == 100 || is_filled(row, 4 * row_length));
+    CHECK((answer != 10 && answer != 11) || memcmp(state, before, state_length) == 0);
+}
+
+/* A string that ends too early behind the last one: the distance is lowered in front of its last byte */
+static void call_overlap(void)
+{
+    unsigned char bytes[174];
+    lindenscoop_listener listener;
+    lindenscoop_record record;
+    uint32_t form = 1 + draw(7), row[NUMBERS], answer;
+    size_t length = random_string(form, bytes, sizeof bytes), used = 0;
+    if (length == 0 || lindenscoop_read(form, bytes, length, &record) != 0)
+        return;
+    lindenscoop_start(form, &listener);
+    memset(row, FILLING, sizeof row);
+    CHECK(lindenscoop_feed_all_raw(listener.bytes, STATE, bytes, length - 1, &used, row, NUMBERS) == 0 && used == length - 1);
+    CHECK(listener.bytes[KEPT] == length - 1 && listener.bytes[DISTANCE] == length);
+    listener.bytes[DISTANCE] = (uint8_t)(draw(2) ? length - 1 : draw((uint32_t)length - 1));
+    used = listener.bytes[DISTANCE];
+    answer = seen(lindenscoop_feed_raw(listener.bytes, STATE, bytes[length - 1], row, NUMBERS));
+    CHECK(answer == (used < length - 1 ? 13u : 100u));
+    CHECK(answer == 13 ? is_filled(row, sizeof row) && listener.bytes[DISTANCE] == used + 1 : memcmp(row, &record, sizeof record) == 0 && listener.bytes[DISTANCE] == 0);
+}
+
+/* The marks are where a listener hands out */
+static void call_mark(void)
+{
+    unsigned char bytes[400];
+    lindenscoop_record record;
+    lindenscoop_listener listener;
+    uint32_t form = random_form();
+    size_t length = random_bytes(form, bytes, 400), room = length + draw(3) - (length ? draw(2) : 0);
+    uint8_t *input = lend(0, bytes, length);
+    uint8_t *marks = lend(1, NULL, room);
+    uint32_t answer = seen(lindenscoop_mark_raw(form, input, length, marks, room));
+    CHECK(answer == (form < 1 || 7 < form ? 1u : room < length ? 10u : 0u));
+    if (answer != 0) {
+        CHECK(is_filled(marks, room));
+        return;
+    }
+    lindenscoop_start(form, &listener);
+    for (size_t i = 0; i < length; i++)
+        CHECK(marks[i] == (lindenscoop_feed(&listener, bytes[i], &record) == LINDENSCOOP_HEARD));
+    CHECK(is_filled(marks + length, room - length));
+}
+
+/* Null with length 0, where the header allows it */
+static void call_with_null(void)
+{
+    lindenscoop_record r;
+    lindenscoop_listener listener;
+    size_t n = 77;
+    random_record(&r);
+    CHECK(lindenscoop_read(1 + draw(9), NULL, 0, &r) == 2);
+    CHECK(lindenscoop_search(1 + draw(7), NULL, 0, draw(3), &n, &r) == 12 && n == 0);
+    CHECK(lindenscoop_write(5, &r, NULL, 0, &n) == 8 && n == 0);
+    CHECK(lindenscoop_start(1 + draw(7), &listener) == 0);
+    CHECK(lindenscoop_feed_all(&listener, NULL, 0, &n, &r) == 0 && n == 0);
+    CHECK(lindenscoop_mark(1 + draw(7), NULL, 0, NULL, 0) == 0);
+}
+
+int main(int argc, char **argv)
+{
+    static void (*const all[])(void) = {call_read, call_write, call_search, call_start, call_feed, call_feed_byte, call_overlap, call_mark, call_with_null};
+    unsigned long long most = argc > 2 ? strtoull(argv[2], NULL, 10) : 200000;
+    if (argc > 1)
+        seed = strtoull(argv[1], NULL, 10);
+    drawn = seed;
+    make_rooms();
+    for (calls = 0; calls < most; calls++) {
+        memset(lent, 0, sizeof lent);
+        all[draw(sizeof all / sizeof *all)]();
+    }
+    if (most >= 20000)
+        for (int i = 0; i <= LINDENSCOOP_OVERLAP; i++)
+            CHECK(answers[i] > 0);
+    CHECK(most < 20000 || answers[LINDENSCOOP_HEARD] > 0);
+    printf("random_calls: seed %llu, %llu calls;", seed, most);
+    for (int i = 0; i < 128; i++)
+        if (answers[i])
+            printf(" %d: %u", i, answers[i]);
+    printf("\n");
+    return 0;
+}

@@ -1,0 +1,105 @@
+//! Prints what was heard in a serial log as CSV, with empty cells for absent fields.
+//!
+//!     cargo run --release -p lindenscoop --example heard_csv -- FORM [FILE]
+
+use std::env;
+use std::error::Error;
+use std::fs::File;
+use std::io::{self, BufWriter, Read, Write};
+use std::process::ExitCode;
+
+use lindenscoop::{heard, Date, Form, Fraction, Record};
+
+const HEADER: &str = include!("../../heard_csv.columns");
+
+fn cell<T: ToString>(field: Option<T>) -> String {
+    field.map_or(String::new(), |value| value.to_string())
+}
+
+fn flag(field: Option<bool>) -> String {
+    cell(field.map(|yes| if yes { "yes" } else { "no" }))
+}
+
+/// The full date and the day of year; one of them is empty.
+fn date(date: Option<Date>) -> [String; 2] {
+    match date {
+        None => [String::new(), String::new()],
+        Some(Date::Full { year, month, day }) => {
+            [format!("20{year:02}-{month:02}-{day:02}"), String::new()]
+        }
+        Some(Date::DayOfYear(day)) => [String::new(), day.to_string()],
+    }
+}
+
+fn fraction(fraction: Fraction) -> String {
+    match fraction {
+        Fraction::Thousandths(value) => format!("0.{value:03}"),
+        Fraction::TenMillionths(value) => format!("0.{value:07}"),
+    }
+}
+
+fn offset(minutes: i32) -> String {
+    let (sign, size) = (if minutes < 0 { '-' } else { '+' }, minutes.unsigned_abs());
+    format!("{sign}{:02}:{:02}", size / 60, size % 60)
+}
+
+/// Ten-thousandths of a degree as degrees.
+fn degrees(value: i32) -> String {
+    let (sign, size) = (if value < 0 { "-" } else { "" }, value.unsigned_abs());
+    format!("{sign}{}.{:04}", size / 10_000, size % 10_000)
+}
+
+fn row(r: &Record) -> String {
+    let [full, day_of_year] = date(r.date);
+    [
+        full,
+        day_of_year,
+        format!("{:02}:{:02}:{:02}", r.hour, r.minute, r.second),
+        cell(r.fraction.map(fraction)),
+        cell(r.channel),
+        flag(r.sync),
+        flag(r.fix),
+        flag(r.utc),
+        flag(r.summer),
+        flag(r.change),
+        flag(r.leap),
+        cell(r.offset.map(offset)),
+        cell(r.position.map(|p| degrees(p.latitude))),
+        cell(r.position.map(|p| degrees(p.longitude))),
+        cell(r.position.map(|p| p.altitude)),
+        flag(r.dsp),
+        flag(r.lsp),
+    ]
+    .join(",")
+}
+
+fn print(words: &[String]) -> Result<(), Box<dyn Error>> {
+    let form = Form(
+        words
+            .first()
+            .ok_or("usage: heard_csv FORM [FILE]")?
+            .parse()?,
+    );
+    let input: Box<dyn Read> = match words.get(1) {
+        Some(path) => Box::new(File::open(path)?),
+        None => Box::new(io::stdin()),
+    };
+    let records = heard(form, input)?;
+    let mut out = BufWriter::new(io::stdout().lock());
+    writeln!(out, "{HEADER}")?;
+    for record in records {
+        writeln!(out, "{}", row(&record?))?;
+    }
+    Ok(out.flush()?)
+}
+
+fn main() -> ExitCode {
+    let words: Vec<String> = env::args().skip(1).collect();
+    match print(&words) {
+        Ok(()) => ExitCode::SUCCESS,
+        Err(error) => {
+            eprintln!("heard_csv: {error}");
+            ExitCode::FAILURE
+        }
+    }
+}

@@ -1,0 +1,155 @@
+//! The border to the static library: the only unsafe code. Every length that crosses is that of the slice beside it, and every function
+//! of the library answers on all inputs, so that nothing has to be tested here first.
+
+/// How many numbers a record has; lindenscoop.h names them in order.
+pub const RECORD_NUMBERS: usize = 29;
+pub type FlatRecord = [u32; RECORD_NUMBERS];
+
+/// How many bytes a listener's state has.
+pub const STATE_BYTES: usize = 70;
+pub type State = [u8; STATE_BYTES];
+
+/// What `feed` and `feed_all` answer for a record handed out.
+pub const HANDED_OUT: u32 = 100;
+
+extern "C" {
+    fn lindenscoop_read_raw(
+        form: u32,
+        input: *const u8,
+        input_length: usize,
+        record: *mut u32,
+        record_length: usize,
+    ) -> u32;
+    fn lindenscoop_write_raw(
+        form: u32,
+        record: *const u32,
+        record_length: usize,
+        out: *mut u8,
+        out_length: usize,
+        written: *mut usize,
+    ) -> u32;
+    fn lindenscoop_search_raw(
+        form: u32,
+        bytes: *const u8,
+        length: usize,
+        start: usize,
+        place: *mut usize,
+        record: *mut u32,
+        record_length: usize,
+    ) -> u32;
+    fn lindenscoop_start_raw(form: u32, state: *mut u8, state_length: usize) -> u32;
+    fn lindenscoop_feed_raw(
+        state: *mut u8,
+        state_length: usize,
+        byte: u8,
+        record: *mut u32,
+        record_length: usize,
+    ) -> u32;
+    fn lindenscoop_feed_all_raw(
+        state: *mut u8,
+        state_length: usize,
+        bytes: *const u8,
+        length: usize,
+        used: *mut usize,
+        record: *mut u32,
+        record_length: usize,
+    ) -> u32;
+    fn lindenscoop_mark_raw(
+        form: u32,
+        bytes: *const u8,
+        length: usize,
+        marks: *mut u8,
+        marks_length: usize,
+    ) -> u32;
+}
+
+pub fn read(form: u32, input: &[u8]) -> (u32, FlatRecord) {
+    let mut record = [0; RECORD_NUMBERS];
+    let number = unsafe {
+        lindenscoop_read_raw(
+            form,
+            input.as_ptr(),
+            input.len(),
+            record.as_mut_ptr(),
+            RECORD_NUMBERS,
+        )
+    };
+    (number, record)
+}
+
+pub fn write(form: u32, record: &FlatRecord, out: &mut [u8]) -> (u32, usize) {
+    let mut written = 0;
+    let number = unsafe {
+        lindenscoop_write_raw(
+            form,
+            record.as_ptr(),
+            RECORD_NUMBERS,
+            out.as_mut_ptr(),
+            out.len(),
+            &mut written,
+        )
+    };
+    (number, written)
+}
+
+pub fn search(form: u32, bytes: &[u8], start: usize) -> (u32, usize, FlatRecord) {
+    let (mut place, mut record) = (0, [0; RECORD_NUMBERS]);
+    let number = unsafe {
+        lindenscoop_search_raw(
+            form,
+            bytes.as_ptr(),
+            bytes.len(),
+            start,
+            &mut place,
+            record.as_mut_ptr(),
+            RECORD_NUMBERS,
+        )
+    };
+    (number, place, record)
+}
+
+pub fn start(form: u32, state: &mut State) -> u32 {
+    unsafe { lindenscoop_start_raw(form, state.as_mut_ptr(), STATE_BYTES) }
+}
+
+pub fn feed(state: &mut State, byte: u8) -> (u32, FlatRecord) {
+    let mut record = [0; RECORD_NUMBERS];
+    let number = unsafe {
+        lindenscoop_feed_raw(
+            state.as_mut_ptr(),
+            STATE_BYTES,
+            byte,
+            record.as_mut_ptr(),
+            RECORD_NUMBERS,
+        )
+    };
+    (number, record)
+}
+
+pub fn feed_all(state: &mut State, bytes: &[u8]) -> (u32, usize, FlatRecord) {
+    let (mut used, mut record) = (0, [0; RECORD_NUMBERS]);
+    let number = unsafe {
+        lindenscoop_feed_all_raw(
+            state.as_mut_ptr(),
+            STATE_BYTES,
+            bytes.as_ptr(),
+            bytes.len(),
+            &mut used,
+            record.as_mut_ptr(),
+            RECORD_NUMBERS,
+        )
+    };
+    (number, used, record)
+}
+
+pub fn mark(form: u32, bytes: &[u8], marks: &mut [u8]) -> u32 {
+    unsafe {
+        lindenscoop_mark_raw(
+            form,
+            bytes.as_ptr(),
+            bytes.len(),
+            marks.as_mut_ptr(),
+            marks.len(),
+        )
+    }
+}

@@ -1,0 +1,74 @@
+//! Why an input, a record, a buffer or a state is refused. The meanings are those of README.md, "What a refusal means".
+
+use std::error::Error;
+use std::fmt;
+
+macro_rules! refusals {
+    ($($name:ident = $number:literal, $meaning:literal;)*) => {
+        /// A refusal, with the number that the library answers.
+        #[derive(Clone, Copy, Debug, PartialEq, Eq, Hash)]
+        pub enum Refusal {
+            $(#[doc = $meaning] $name = $number,)*
+        }
+
+        impl Refusal {
+            /// Every refusal, in the order of the numbers.
+            pub const ALL: &'static [Refusal] = &[$(Refusal::$name,)*];
+
+            /// What it means.
+            pub fn meaning(self) -> &'static str {
+                match self {
+                    $(Refusal::$name => $meaning,)*
+                }
+            }
+        }
+    };
+}
+
+refusals! {
+    UnknownForm = 1, "there is no form of this number, or none that search and listener take";
+    WrongLength = 2, "the input is not as long as the form";
+    WrongByte = 3, "a fixed byte, digit, letter, padding, mark, key or spelling is wrong";
+    OutOfRange = 4, "a number is outside its range, or there is no such date";
+    Disagreement = 5, "two parts disagree: weekday and date, `L` and second 60, seconds of the day and time, a minus on a zero, utc and summer both yes";
+    WrongSum = 6, "the SPA sum or the frame's parity is wrong";
+    BadRecord = 7, "the record to be written is bad";
+    MissingField = 8, "a field that the form carries is absent or of the other kind";
+    NotExpressible = 9, "the form has no letter for the record's values";
+    ShortBuffer = 10, "the buffer is shorter than the output";
+    BadState = 11, "a listener's state that no listener has: another form, too many bytes, too large a distance";
+    NotFound = 12, "no valid string lies wholly at or after the start of the search";
+    Overlap = 13, "a valid string ends too close behind the last one; a listener that was started never gives it";
+}
+
+impl Refusal {
+    /// The number, as the library and its papers have it.
+    ///
+    /// ```
+    /// assert_eq!(lindenscoop::Refusal::WrongSum.number(), 6);
+    /// ```
+    pub fn number(self) -> u32 {
+        self as u32
+    }
+
+    /// The refusal of a number, if there is one.
+    pub fn from_number(number: u32) -> Option<Refusal> {
+        Refusal::ALL
+            .iter()
+            .copied()
+            .find(|refusal| refusal.number() == number)
+    }
+
+    /// The refusal of a number that the library answered.
+    pub(crate) fn answered(number: u32) -> Refusal {
+        Refusal::from_number(number).expect("the library answers its own numbers")
+    }
+}
+
+impl fmt::Display for Refusal {
+    fn fmt(&self, f: &mut fmt::Formatter<'_>) -> fmt::Result {
+        write!(f, "refused with {}: {}", self.number(), self.meaning())
+    }
+}
+
+impl Error for Refusal {}

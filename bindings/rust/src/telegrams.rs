@@ -1,0 +1,140 @@
+//! All records of a slice, and of anything that can be read.
+
+use std::io::{self, Read};
+
+use crate::codec::{search, Found};
+use crate::ffi;
+use crate::form::Form;
+use crate::listener::Listener;
+use crate::record::Record;
+use crate::refusal::Refusal;
+
+/// The valid strings of a serial form in a slice, in order.
+///
+/// ```
+/// use lindenscoop::{telegrams, Form};
+///
+/// let bytes = b"XGU000229000000\r--XGU000229000001\r";
+/// let seconds: Vec<u32> = telegrams(Form::RACAL, bytes).unwrap().map(|found| found.record.second).collect();
+/// assert_eq!(seconds, [0, 1]);
+/// ```
+///
+/// A form that is none of 1 to 7 is refused, as by [`heard`]:
+///
+/// ```
+/// use lindenscoop::{telegrams, Form, Refusal};
+///
+/// assert_eq!(telegrams(Form::FRAME, b"").err(), Some(Refusal::UnknownForm));
+/// ```
+pub fn telegrams(form: Form, bytes: &[u8]) -> Result<Telegrams<'_>, Refusal> {
+    Listener::new(form)?;
+    Ok(Telegrams { form, bytes, at: 0 })
+}
+
+/// The iterator of [`telegrams`].
+#[derive(Clone, Debug)]
+pub struct Telegrams<'a> {
+    form: Form,
+    bytes: &'a [u8],
+    at: usize,
+}
+
+impl Iterator for Telegrams<'_> {
+    type Item = Found;
+
+    fn next(&mut self) -> Option<Found> {
+        match search(self.form, self.bytes, self.at) {
+            Ok(found) => {
+                // Valid strings never overlap, so going on one byte further finds the same ones as going on behind the string.
+                self.at = found.place + 1;
+                Some(found)
+            }
+            Err(Refusal::NotFound) => None,
+            Err(refusal) => unreachable!("the form is a serial one: {refusal}"),
+        }
+    }
+}
+
+/// Runs a new listener over a slice and marks each byte that completes a valid string with 1, any other with 0.
+///
+/// ```
+/// use lindenscoop::{mark, Form};
+///
+/// let bytes = b"--XGU000229000000\r--";
+/// let mut marks = [0; 20];
+/// mark(Form::RACAL, bytes, &mut marks).unwrap();
+/// assert_eq!(marks.iter().position(|mark| *mark == 1), Some(17));
+/// ```
+pub fn mark(form: Form, bytes: &[u8], marks: &mut [u8]) -> Result<(), Refusal> {
+    match ffi::mark(form.0, bytes, marks) {
+        0 => Ok(()),
+        number => Err(Refusal::answered(number)),
+    }
+}
+
+/// The records heard in what a reader yields, in pieces of any size.
+///
+/// ```
+/// use lindenscoop::{heard, Form};
+///
+/// let log: &[u8] = b"noiseXGU000229000000\r";
+/// let records: Result<Vec<_>, _> = heard(Form::RACAL, log).unwrap().collect();
+/// assert_eq!(records.unwrap().len(), 1);
+/// ```
+pub fn heard<R: Read>(form: Form, reader: R) -> Result<Heard<R>, Refusal> {
+    let listener = Listener::new(form)?;
+    Ok(Heard {
+        reader,
+        listener,
+        piece: vec![0; 65536],
+        at: 0,
+        end: 0,
+    })
+}
+
+/// The iterator of [`heard`].
+#[derive(Debug)]
+pub struct Heard<R> {
+    reader: R,
+    listener: Listener,
+    piece: Vec<u8>,
+    at: usize,
+    end: usize,
+}
+
+impl<R: Read> Heard<R> {
+    /// The next piece; false at the end.
+    fn refill(&mut self) -> io::Result<bool> {
+        loop {
+            match self.reader.read(&mut self.piece) {
+                Ok(read) => {
+                    (self.at, self.end) = (0, read);
+                    return Ok(read > 0);
+                }
+                Err(error) if error.kind() == io::ErrorKind::Interrupted => {}
+                Err(error) => return Err(error),
+            }
+        }
+    }
+}
+
+impl<R: Read> Iterator for Heard<R> {
+    type Item = io::Result<Record>;
+
+    fn next(&mut self) -> Option<io::Result<Record>> {
+        loop {
+            let (used, answer) = self.listener.feed_all(&self.piece[self.at..self.end]);
+            self.at += used;
+            match answer {
+                Ok(Some(record)) => return Some(Ok(record)),
+                Ok(None) => match self.refill() {
+                    Ok(true) => {}
+                    Ok(false) => return None,
+                    Err(error) => return Some(Err(error)),
+                },
+                // A listener that was started is never refused; were it so, the caller is told.
+                Err(refusal) => return Some(Err(io::Error::other(refusal))),
+            }
+        }
+    }
+}

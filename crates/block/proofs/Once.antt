@@ -1,0 +1,87 @@
+-- Lines of which no two tell the same field: what the lines so far tell, the lines behind them do not.
+use mathlib.Core.Path.{_≡_, refl, sym, _∙_, ap}
+use mathlib.Core.Bool.{Bool, true, false, not, _&&_, _||_, false≢true}
+use mathlib.Core.List.{List, [], _∷_, _++_}
+use Prim.Native.Nat.{ℕ, zero, suc}
+use borrow.Author.Tests.{not-true}
+use lib.ListN.{getD}
+use Rattle.choice.proofs.Tests.{both}
+use Rattle.forms.specs.Block.{Line, layoutAt}
+use Rattle.forms.specs.Places.{Row, has}
+use Rattle.forms.specs.Slots.{Slot}
+use Rattle.forms.proofs.Append.{has-append}
+use Rattle.forms.proofs.Layouts.{choice-at, choiceAt, layout-at, nonempty}
+use Rattle.forms.proofs.Lines.{everyLayout, everyLine, layout-passes}
+use Rattle.block_lines.specs.Reading.{hasAny}
+
+-- what every layout of a line passes, the one found passes
+pub found-passes : (t : Row → Bool) (l : Line) (k : ℕ) (s : List ℕ) → nonempty l ≡ true → everyLayout t l ≡ true → t (layoutAt l k s) ≡ true
+found-passes t l k s n h = rw (layout-at l k s) (layout-passes t l (choiceAt l k s) (choice-at l k s n) h)
+
+or-middle : (a b c d : Bool) → ((a || b) || (c || d)) ≡ ((a || c) || (b || d))
+or-middle true b c d = refl
+or-middle false true true d = refl
+or-middle false true false d = refl
+or-middle false false c d = refl
+
+pub any-append : (ps qs : Row) (gs : List Slot) → hasAny (ps ++ qs) gs ≡ (hasAny ps gs || hasAny qs gs)
+unfolding hasAny
+any-append ps qs [] = refl
+any-append ps qs (g ∷ gs) = simp (has-append ps qs g, any-append ps qs gs) (or-middle (has ps g) (has qs g) (hasAny ps gs) (hasAny qs gs))
+
+abbrev pub without : List Slot → Row → Bool
+without gs ps = not (hasAny ps gs)
+
+abbrev noneIn : List Slot → List Line → Bool
+noneIn gs ls = everyLine (everyLayout (without gs)) ls
+
+-- no two lines tell the field
+unfoldable pub toldOnce : List Line → List Slot → Bool
+toldOnce [] gs = true
+toldOnce (l ∷ ls) gs = (everyLayout (without gs) l || noneIn gs ls) && toldOnce ls gs
+
+-- the row or the lines behind it do not tell the field
+abbrev pub clear : Row → List Line → List Slot → Bool
+clear ps ls gs = not (hasAny ps gs) || noneIn gs ls
+
+here : (p h a b : Bool) → (a ≡ true → h ≡ false) → (not p || (a && b)) ≡ true → h ≡ true → p ≡ false
+here true h true b q c e = absurd (false≢true (sym (q refl) ∙ e))
+here true h false b q c e = absurd (false≢true c)
+here false h a b q c e = refl
+
+next : (p h a b : Bool) → (a ≡ true → h ≡ false) → (not p || (a && b)) ≡ true → (a || b) ≡ true → (not (p || h) || b) ≡ true
+next true h true b q c o = c
+next true h false b q c o = absurd (false≢true c)
+next false true true b q c o = absurd (false≢true (sym (q refl)))
+next false true false b q c o = o
+next false false a b q c o = refl
+
+module _ (ps : Row) (l : Line) (ls : List Line) (k : ℕ) (s : List ℕ) (f : nonempty l ≡ true) (gs : List Slot) (c : clear ps (l ∷ ls) gs ≡ true) where
+  found-without : everyLayout (without gs) l ≡ true → hasAny (layoutAt l k s) gs ≡ false
+  found-without h = not-true _ (found-passes (without gs) l k s f h)
+
+  pub apart-here : hasAny (layoutAt l k s) gs ≡ true → hasAny ps gs ≡ false
+  unfolding everyLine
+  apart-here h = here (hasAny ps gs) (hasAny (layoutAt l k s) gs) (everyLayout (without gs) l) (noneIn gs ls) found-without c h
+
+  pub clear-next : toldOnce (l ∷ ls) gs ≡ true → clear (ps ++ layoutAt l k s) ls gs ≡ true
+  unfolding everyLine toldOnce
+  clear-next o =
+      ap (λ (t : Bool). not t || noneIn gs ls) (any-append ps (layoutAt l k s) gs)
+      ∙ next (hasAny ps gs) (hasAny (layoutAt l k s) gs) (everyLayout (without gs) l) (noneIn gs ls) found-without c
+      (both (everyLayout (without gs) l || noneIn gs ls) (toldOnce ls gs) o .0)
+
+pub rest-once : (l : Line) (ls : List Line) (gs : List Slot) → toldOnce (l ∷ ls) gs ≡ true → toldOnce ls gs ≡ true
+unfolding toldOnce
+rest-once l ls gs o = both (everyLayout (without gs) l || noneIn gs ls) (toldOnce ls gs) o .1
+
+-- each field is told by one line at most
+unfoldable pub everyGroup : (List Slot → Bool) → List (List Slot) → Bool
+everyGroup t [] = t []
+everyGroup t (g ∷ gs) = t g && everyGroup t gs
+
+pub group-passes : (t : List Slot → Bool) (gs : List (List Slot)) → everyGroup t gs ≡ true → (n : ℕ) → t (getD gs n []) ≡ true
+unfolding everyGroup
+group-passes t [] h n = h
+group-passes t (g ∷ gs) h zero = both (t g) (everyGroup t gs) h .0
+group-passes t (g ∷ gs) h (suc n) = group-passes t gs (both (t g) (everyGroup t gs) h .1) n

@@ -1,0 +1,44 @@
+// The fraction of a record: there and of its kind, and its number.
+ghost use mathlib.Core.Path.{_≡_};
+ghost use Rattle.forms.specs.Fields.Fraction.{hasFraction, tenMillionths, tenMillionthsTold, thousandths, thousandthsTold};
+use record::Fraction;
+
+pub fn has_thousandths(fraction: Fraction) -> bool
+    ensures { λ r. ⌜ r ≡ hasFraction thousandths fraction ⌝ }
+{
+    match fraction {
+        Fraction::Absent => false,
+        Fraction::Thousandths(_) => true,
+        Fraction::TenMillionths(_) => false,
+    }
+}
+
+pub fn has_ten_millionths(fraction: Fraction) -> bool
+    ensures { λ r. ⌜ r ≡ hasFraction tenMillionths fraction ⌝ }
+{
+    match fraction {
+        Fraction::Absent => false,
+        Fraction::Thousandths(_) => false,
+        Fraction::TenMillionths(_) => true,
+    }
+}
+
+pub fn thousandths_of(fraction: Fraction) -> u32
+    ensures { λ r. ⌜ r ≡ thousandthsTold fraction ⌝ }
+{
+    match fraction {
+        Fraction::Absent => 0,
+        Fraction::Thousandths(n) => n,
+        Fraction::TenMillionths(_) => 0,
+    }
+}
+
+pub fn ten_millionths_of(fraction: Fraction) -> u32
+    ensures { λ r. ⌜ r ≡ tenMillionthsTold fraction ⌝ }
+{
+    match fraction {
+        Fraction::Absent => 0,
+        Fraction::Thousandths(_) => 0,
+        Fraction::TenMillionths(n) => n,
+    }
+}

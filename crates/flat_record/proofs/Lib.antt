@@ -1,0 +1,4 @@
+pub mod Flat
+pub mod Put
+pub mod Fields
+pub mod Back

@@ -1,0 +1,143 @@
+-- The record that numbers give: those of an absent field are not looked at.
+use mathlib.Core.Bool.{Bool, true, false, _&&_}
+use mathlib.Core.List.{List}
+use Prim.Native.Nat.{ℕ}
+use lib.Dec.{eqb, leb}
+use lib.IntN.{ℤ}
+use lib.ListN.{length, getD}
+use Rattle.choice.specs.Pick.{pick}
+use Rattle.record.specs.declared.Channel.{Channel}
+use Rattle.record.specs.declared.Channel.the-variants as channelIs
+use Rattle.record.specs.declared.Date.{Date}
+use Rattle.record.specs.declared.Date.the-variants as dateIs
+use Rattle.record.specs.declared.Flag.{Flag}
+use Rattle.record.specs.declared.Flag.the-variants as flagIs
+use Rattle.record.specs.declared.Fraction.{Fraction}
+use Rattle.record.specs.declared.Fraction.the-variants as fractionIs
+use Rattle.record.specs.declared.Offset.{Offset}
+use Rattle.record.specs.declared.Offset.the-variants as offsetIs
+use Rattle.record.specs.declared.Position.{Position}
+use Rattle.record.specs.declared.Position.the-variants as positionIs
+use Rattle.record.specs.declared.Record.{Record}
+use Rattle.record.specs.declared.answer.Reading.{Reading}
+use Rattle.record.specs.declared.answer.Reading.the-variants as reading
+use Rattle.record.specs.declared.refusal.Refusal.the-variants as refusal
+use Rattle.record.specs.Sign.{signed}
+use Rattle.flat_record.specs.declared.decode.Kind.{Kind}
+use Rattle.flat_record.specs.declared.decode.Kind.the-variants as kind
+use Rattle.flat_record.specs.Encode.{size}
+
+-- what the first number of a field says
+unfoldable pub kindOf : ℕ → Kind
+kindOf n = pick (eqb n 0) kind.Absent (pick (eqb n 1) kind.First (pick (eqb n 2) kind.Second kind.Unknown))
+
+-- the number at a place
+abbrev pub at : List ℕ → ℕ → ℕ
+at ns i = getD ns i 0
+
+-- the fields, each of its kind and its numbers; a kind that is unknown is refused below, before any of them
+
+abbrev pub dateFrom : Kind → ℕ → ℕ → ℕ → ℕ → Date
+dateFrom kind.Absent y m d n = dateIs.Absent
+dateFrom kind.First y m d n = dateIs.Full y m d
+dateFrom kind.Second y m d n = dateIs.DayOfYear n
+dateFrom kind.Unknown y m d n = dateIs.Absent
+
+abbrev pub dateAt : List ℕ → Date
+dateAt ns = dateFrom (kindOf (at ns 3)) (at ns 4) (at ns 5) (at ns 6) (at ns 7)
+
+abbrev pub fractionFrom : Kind → ℕ → Fraction
+fractionFrom kind.Absent n = fractionIs.Absent
+fractionFrom kind.First n = fractionIs.Thousandths n
+fractionFrom kind.Second n = fractionIs.TenMillionths n
+fractionFrom kind.Unknown n = fractionIs.Absent
+
+abbrev pub channelFrom : Kind → ℕ → Channel
+channelFrom kind.Absent n = channelIs.Absent
+channelFrom kind.First n = channelIs.Number n
+channelFrom kind.Second n = channelIs.Absent
+channelFrom kind.Unknown n = channelIs.Absent
+
+abbrev pub flagFrom : Kind → Flag
+flagFrom kind.Absent = flagIs.Absent
+flagFrom kind.First = flagIs.No
+flagFrom kind.Second = flagIs.Yes
+flagFrom kind.Unknown = flagIs.Absent
+
+-- a sign (1 for negative) and a magnitude
+abbrev pub signedFrom : ℕ → ℕ → ℤ
+signedFrom s m = signed (eqb s 1) m
+
+abbrev pub offsetFrom : Kind → ℤ → Offset
+offsetFrom kind.Absent z = offsetIs.Absent
+offsetFrom kind.First z = offsetIs.Minutes z
+offsetFrom kind.Second z = offsetIs.Absent
+offsetFrom kind.Unknown z = offsetIs.Absent
+
+abbrev pub offsetAt : List ℕ → Offset
+offsetAt ns = offsetFrom (kindOf (at ns 18)) (signedFrom (at ns 19) (at ns 20))
+
+abbrev pub positionFrom : Kind → ℤ → ℤ → ℕ → Position
+positionFrom kind.Absent lat lon alt = positionIs.Absent
+positionFrom kind.First lat lon alt = positionIs.Degrees lat lon alt
+positionFrom kind.Second lat lon alt = positionIs.Absent
+positionFrom kind.Unknown lat lon alt = positionIs.Absent
+
+abbrev pub positionAt : List ℕ → Position
+positionAt ns = positionFrom (kindOf (at ns 21)) (signedFrom (at ns 22) (at ns 23)) (signedFrom (at ns 24) (at ns 25)) (at ns 26)
+
+-- "A kind that is none of these, a sign that is not 0 or 1, or a magnitude that does not fit an i32" where one of these is false
+
+abbrev pub signFits : ℕ → ℕ → Bool
+signFits s m = leb s 1 && leb m 2147483647
+
+-- a field of one kind that is absent, or there with numbers that fit
+abbrev pub fitsIfThere : Kind → Bool → Bool
+fitsIfThere kind.Absent b = true
+fitsIfThere kind.First b = b
+fitsIfThere kind.Second b = false
+fitsIfThere kind.Unknown b = false
+
+abbrev pub offsetFits : List ℕ → Bool
+offsetFits ns = fitsIfThere (kindOf (at ns 18)) (signFits (at ns 19) (at ns 20))
+
+abbrev pub positionFits : List ℕ → Bool
+positionFits ns = fitsIfThere (kindOf (at ns 21)) (signFits (at ns 22) (at ns 23) && signFits (at ns 24) (at ns 25))
+
+abbrev pub kindsFit : List ℕ → Bool
+kindsFit ns =
+    leb (at ns 3) 2 && leb (at ns 8) 2 && leb (at ns 10) 1
+    && leb (at ns 12) 2 && leb (at ns 13) 2 && leb (at ns 14) 2 && leb (at ns 15) 2 && leb (at ns 16) 2 && leb (at ns 17) 2
+    && leb (at ns 27) 2 && leb (at ns 28) 2
+
+-- numbers that are a record's, good or bad
+unfoldable pub isFlat : List ℕ → Bool
+isFlat ns = kindsFit ns && offsetFits ns && positionFits ns
+
+-- the record of such numbers
+unfoldable pub recordAt : List ℕ → Record
+recordAt ns =
+    record {
+      hour = at ns 0;
+      minute = at ns 1;
+      second = at ns 2;
+      date = dateAt ns;
+      fraction = fractionFrom (kindOf (at ns 8)) (at ns 9);
+      channel = channelFrom (kindOf (at ns 10)) (at ns 11);
+      sync = flagFrom (kindOf (at ns 12));
+      fix = flagFrom (kindOf (at ns 13));
+      utc = flagFrom (kindOf (at ns 14));
+      summer = flagFrom (kindOf (at ns 15));
+      change = flagFrom (kindOf (at ns 16));
+      leap = flagFrom (kindOf (at ns 17));
+      offset = offsetAt ns;
+      position = positionAt ns;
+      dsp = flagFrom (kindOf (at ns 27));
+      lsp = flagFrom (kindOf (at ns 28));
+    }
+
+-- "is refused as a bad record (7)", and so is any other number of numbers
+unfoldable pub recordOf : List ℕ → Reading
+recordOf ns =
+    pick (eqb (length ns) size) (pick (isFlat ns) (reading.Read (recordAt ns)) (reading.Refused refusal.BadRecord))
+    (reading.Refused refusal.BadRecord)

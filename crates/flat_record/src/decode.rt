@@ -1,0 +1,209 @@
+// The record that numbers give. Those of an absent field are not looked at.
+ghost use mathlib.Core.Path.{_≡_};
+ghost use mathlib.Core.Bool.{true};
+ghost use lib.ListN.{length};
+ghost use Rattle.flat_record.specs.Decode.{channelFrom, dateAt, flagFrom, fractionFrom, isFlat, kindOf};
+ghost use Rattle.flat_record.specs.Decode.{offsetAt, offsetFits, positionAt, positionFits, recordAt, recordOf, signFits, signedFrom};
+ghost use Rattle.flat_record.specs.Encode.{size};
+use crate::SIZE;
+use record::Channel;
+use record::Date;
+use record::Flag;
+use record::Fraction;
+use record::Offset;
+use record::Position;
+use record::Record;
+use record::answer::Reading;
+use record::refusal::Refusal;
+use record::sign::signed_number;
+
+// What the first number of a field says: absent, or which of its kinds it is.
+pub enum Kind {
+    Absent,
+    First,
+    Second,
+    Unknown,
+}
+
+fn kind_of(n: u32) -> Kind
+    ensures { λ r. ⌜ r ≡ kindOf n ⌝ }
+{
+    match n {
+        0 => Kind::Absent,
+        1 => Kind::First,
+        2 => Kind::Second,
+        _ => Kind::Unknown,
+    }
+}
+
+fn date_at(n: &[u32]) -> Date
+    requires { ⌜ length (now n) ≡ size ⌝ }
+    ensures { λ r. ⌜ r ≡ dateAt (now (n .entry)) ⌝ }
+{
+    match kind_of(n[3]) {
+        Kind::Absent => Date::Absent,
+        Kind::First => Date::Full {
+            year: n[4],
+            month: n[5],
+            day: n[6],
+        },
+        Kind::Second => Date::DayOfYear(n[7]),
+        Kind::Unknown => Date::Absent,
+    }
+}
+
+fn fraction_from(kind: u32, value: u32) -> Fraction
+    ensures { λ r. ⌜ r ≡ fractionFrom (kindOf kind) value ⌝ }
+{
+    match kind_of(kind) {
+        Kind::Absent => Fraction::Absent,
+        Kind::First => Fraction::Thousandths(value),
+        Kind::Second => Fraction::TenMillionths(value),
+        Kind::Unknown => Fraction::Absent,
+    }
+}
+
+fn channel_from(kind: u32, number: u32) -> Channel
+    ensures { λ r. ⌜ r ≡ channelFrom (kindOf kind) number ⌝ }
+{
+    match kind_of(kind) {
+        Kind::Absent => Channel::Absent,
+        Kind::First => Channel::Number(number),
+        Kind::Second => Channel::Absent,
+        Kind::Unknown => Channel::Absent,
+    }
+}
+
+fn flag_from(kind: u32) -> Flag
+    ensures { λ r. ⌜ r ≡ flagFrom (kindOf kind) ⌝ }
+{
+    match kind_of(kind) {
+        Kind::Absent => Flag::Absent,
+        Kind::First => Flag::No,
+        Kind::Second => Flag::Yes,
+        Kind::Unknown => Flag::Absent,
+    }
+}
+
+fn sign_fits(sign: u32, magnitude: u32) -> bool
+    ensures { λ r. ⌜ r ≡ signFits sign magnitude ⌝ }
+{
+    (sign <= 1) & (magnitude <= 2147483647)
+}
+
+// A minus on zero is dropped.
+fn signed_from(sign: u32, magnitude: u32) -> i32
+    requires { ⌜ signFits sign magnitude ≡ true ⌝ }
+    ensures { λ r. ⌜ r ≡ signedFrom sign magnitude ⌝ }
+{
+    signed_number(sign == 1, magnitude)
+}
+
+fn offset_fits(n: &[u32]) -> bool
+    requires { ⌜ length (now n) ≡ size ⌝ }
+    ensures { λ r. ⌜ r ≡ offsetFits (now (n .entry)) ⌝ }
+{
+    match kind_of(n[18]) {
+        Kind::Absent => true,
+        Kind::First => sign_fits(n[19], n[20]),
+        Kind::Second => false,
+        Kind::Unknown => false,
+    }
+}
+
+fn offset_at(n: &[u32]) -> Offset
+    requires { ⌜ (length (now n) ≡ size) × (offsetFits (now n) ≡ true) ⌝ }
+    ensures { λ r. ⌜ r ≡ offsetAt (now (n .entry)) ⌝ }
+{
+    match kind_of(n[18]) {
+        Kind::Absent => Offset::Absent,
+        Kind::First => Offset::Minutes(signed_from(n[19], n[20])),
+        Kind::Second => Offset::Absent,
+        Kind::Unknown => Offset::Absent,
+    }
+}
+
+fn position_fits(n: &[u32]) -> bool
+    requires { ⌜ length (now n) ≡ size ⌝ }
+    ensures { λ r. ⌜ r ≡ positionFits (now (n .entry)) ⌝ }
+{
+    match kind_of(n[21]) {
+        Kind::Absent => true,
+        Kind::First => sign_fits(n[22], n[23]) & sign_fits(n[24], n[25]),
+        Kind::Second => false,
+        Kind::Unknown => false,
+    }
+}
+
+fn position_at(n: &[u32]) -> Position
+    requires { ⌜ (length (now n) ≡ size) × (positionFits (now n) ≡ true) ⌝ }
+    ensures { λ r. ⌜ r ≡ positionAt (now (n .entry)) ⌝ }
+{
+    match kind_of(n[21]) {
+        Kind::Absent => Position::Absent,
+        Kind::First => Position::Degrees {
+            latitude: signed_from(n[22], n[23]),
+            longitude: signed_from(n[24], n[25]),
+            altitude: n[26],
+        },
+        Kind::Second => Position::Absent,
+        Kind::Unknown => Position::Absent,
+    }
+}
+
+fn is_flat(n: &[u32]) -> bool
+    requires { ⌜ length (now n) ≡ size ⌝ }
+    ensures { λ r. ⌜ r ≡ isFlat (now (n .entry)) ⌝ }
+{
+    (n[3] <= 2)
+        & (n[8] <= 2)
+        & (n[10] <= 1)
+        & (n[12] <= 2)
+        & (n[13] <= 2)
+        & (n[14] <= 2)
+        & (n[15] <= 2)
+        & (n[16] <= 2)
+        & (n[17] <= 2)
+        & (n[27] <= 2)
+        & (n[28] <= 2)
+        & offset_fits(n)
+        & position_fits(n)
+}
+
+fn record_at(n: &[u32]) -> Record
+    requires { ⌜ (length (now n) ≡ size) × ((offsetFits (now n) ≡ true) × (positionFits (now n) ≡ true)) ⌝ }
+    ensures { λ r. ⌜ r ≡ recordAt (now (n .entry)) ⌝ }
+{
+    Record {
+        hour: n[0],
+        minute: n[1],
+        second: n[2],
+        date: date_at(n),
+        fraction: fraction_from(n[8], n[9]),
+        channel: channel_from(n[10], n[11]),
+        sync: flag_from(n[12]),
+        fix: flag_from(n[13]),
+        utc: flag_from(n[14]),
+        summer: flag_from(n[15]),
+        change: flag_from(n[16]),
+        leap: flag_from(n[17]),
+        offset: offset_at(n),
+        position: position_at(n),
+        dsp: flag_from(n[27]),
+        lsp: flag_from(n[28]),
+    }
+}
+
+// The record of 29 numbers, or refusal 7.
+pub fn record_of(n: &[u32]) -> Reading
+    ensures { λ r. ⌜ r ≡ recordOf (now (n .entry)) ⌝ }
+{
+    if n.len() != SIZE {
+        return Reading::Refused(Refusal::BadRecord);
+    }
+    if is_flat(n) {
+        Reading::Read(record_at(n))
+    } else {
+        Reading::Refused(Refusal::BadRecord)
+    }
+}

@@ -1,0 +1,134 @@
+-- A checksum over bytes that tell none does not see any, and stays below its limit.
+use mathlib.Core.Path.{_≡_, refl, sym, _∙_, ap}
+use mathlib.Core.Bool.{Bool, true, false, not, _&&_, _||_}
+use mathlib.Core.List.{List, [], _∷_, _++_}
+use mathlib.Core.Logic.{⊎-elim}
+use Prim.Native.Nat.{ℕ, zero, suc, _+_, _-_, _<_}
+use native.Mathlib.Nat.{zero-add, suc-add}
+use native.Mathlib.Omega.{arith}
+use borrow.Author.Tests.{eqb-true, leb-true, ltb-true, not-true}
+use lib.Bits.{bitXor, xor-lt}
+use lib.Dec.{eqb, leb, ltb}
+use lib.ListN.{length, take, drop}
+use lib.Seq.{drop-drop, drop-at, take-nil}
+use Rattle.choice.specs.Pick.{pick}
+use Rattle.choice.proofs.Tests.{both, either, or-left, or-right}
+use Rattle.spelling.specs.Bytes.{allAre, xorFrom}
+use Rattle.spelling.specs.Spelling.{spell}
+use Rattle.forms.specs.Checksum.{Checksum, Rule, checksumOf, evenOnes, exclusiveOr, totalBy}
+use Rattle.forms.specs.Places.{Place, Row, bytesOf, fixed, has, isOf, part, placed, width}
+use Rattle.forms.specs.Slots.{Slot, Values, isChecksum, same}
+use Rattle.forms.proofs.Allowed.{all-drop, all-take}
+use Rattle.forms.proofs.Rows.{placed-length, roomy, roomyRow, soundPlace, soundRow}
+use Rattle.forms.proofs.Slots.{slot-self}
+
+take-app : (n : ℕ) (a b : List ℕ) → take n (a ++ b) ≡ take n a ++ take (n - length a) b
+take-app zero a b =
+    let e : 0 - length a ≡ 0 = omega arith in
+    sym (ap (λ (k : ℕ). take k b) e)
+take-app (suc n) [] b =
+    let e : suc n - 0 ≡ suc n = omega arith in
+    sym (ap (λ (k : ℕ). take k b) e)
+take-app (suc n) (x ∷ a) b =
+    let e : n - length a ≡ suc n - suc (length a) = omega arith in
+    ap (λ (t : List ℕ). x ∷ t) (take-app n a b ∙ ap (λ (k : ℕ). take n a ++ take k b) e)
+
+pub take-drop : (a n : ℕ) (s : List ℕ) → take n (drop a s) ≡ drop a (take (a + n) s)
+take-drop zero n s = ap (λ (k : ℕ). take k s) (sym (zero-add n))
+take-drop (suc a) n [] = take-nil n ∙ sym (ap (drop (suc a)) (take-nil (suc a + n)))
+take-drop (suc a) n (x ∷ s) = take-drop a n s ∙ sym (ap (λ (k : ℕ). drop (suc a) (take k (x ∷ s))) (suc-add a n))
+
+-- the place tells no checksum
+abbrev pub unsummedPlace : Place → Bool
+unsummedPlace (fixed bs) = true
+unsummedPlace (part c f) = not (isChecksum f)
+
+-- no place of the first n bytes tells one
+unfoldable pub unsummed : Row → ℕ → Bool
+unsummed [] n = true
+unsummed (p ∷ ps) n = eqb n 0 || (unsummedPlace p && unsummed ps (n - width p))
+
+-- no place of the n bytes behind the first m tells one
+unfoldable pub unsummedFrom : Row → ℕ → ℕ → Bool
+unsummedFrom [] m n = true
+unsummedFrom (p ∷ ps) m n = pick (leb (width p) m) (unsummedFrom ps (m - width p) n) (unsummed (p ∷ ps) (m + n))
+
+-- bytes whose places tell no checksum are the same for values that differ in checksums alone
+module _ (v w : Values) where
+  -- the row's values but for checksums
+  abbrev Alike : Row → Type 0
+  Alike ps = (f : Slot) → has ps f ≡ true → isChecksum f ≡ false → v f ≡ w f
+
+  behind-alike : (p : Place) (ps : Row) → Alike (p ∷ ps) → Alike ps
+  unfolding has
+  behind-alike p ps e f h = e f (or-right (isOf f p) (has ps f) h)
+
+  placed-alike : (p : Place) (ps : Row) → Alike (p ∷ ps) → unsummedPlace p ≡ true → placed p v ≡ placed p w
+  unfolding has
+  placed-alike (fixed bs) ps e h = refl
+  placed-alike (part c f) ps e h = ap (spell c) (e f (or-left (same f f) (has ps f) (slot-self f)) (not-true (isChecksum f) h))
+
+  front-alike : (ps : Row) (n : ℕ) → Alike ps → soundRow ps ≡ true → roomyRow ps v ≡ true → roomyRow ps w ≡ true → unsummed ps n ≡ true
+      → take n (bytesOf ps v) ≡ take n (bytesOf ps w)
+  unfolding bytesOf unsummed soundRow roomyRow
+  front-alike [] n e s x y h = refl
+  front-alike (p ∷ ps) n e s x y h =
+      ⊎-elim (λ i. let z = eqb-true n 0 i in simp z)
+      (λ i.
+      let q = both (unsummedPlace p) (unsummed ps (n - width p)) i in
+      let a = both (soundPlace p) (soundRow ps) s in
+      let b = both (roomy p v) (roomyRow ps v) x in
+      let c = both (roomy p w) (roomyRow ps w) y in
+      let l = placed-length p w (a .0) (c .0) in
+      let t = front-alike ps (n - width p) (behind-alike p ps e) (a .1) (b .1) (c .1) (q .1) in
+      ap (λ (u : List ℕ). take n (u ++ bytesOf ps v)) (placed-alike p ps e (q .0)) ∙ take-app n (placed p w) (bytesOf ps v)
+      ∙ ap (λ (k : ℕ). take n (placed p w) ++ take (n - k) (bytesOf ps v)) l
+      ∙ ap (λ (u : List ℕ). take n (placed p w) ++ u) t
+      ∙ sym (take-app n (placed p w) (bytesOf ps w) ∙ ap (λ (k : ℕ). take n (placed p w) ++ take (n - k) (bytesOf ps w)) l))
+      (either (eqb n 0) (unsummedPlace p && unsummed ps (n - width p)) h)
+
+  pub range-alike : (ps : Row) (m n : ℕ) → Alike ps → soundRow ps ≡ true → roomyRow ps v ≡ true → roomyRow ps w ≡ true → unsummedFrom ps m n ≡ true
+      → take n (drop m (bytesOf ps v)) ≡ take n (drop m (bytesOf ps w))
+  unfolding unsummedFrom
+  range-alike [] m n e s x y h = unfold bytesOf in refl
+  range-alike (p ∷ ps) m n e s x y h = go (leb (width p) m) refl h (range-alike ps (m - width p) n (behind-alike p ps e))
+    where
+      go : (b : Bool) → leb (width p) m ≡ b → pick b (unsummedFrom ps (m - width p) n) (unsummed (p ∷ ps) (m + n)) ≡ true
+          → (soundRow ps ≡ true → roomyRow ps v ≡ true → roomyRow ps w ≡ true → unsummedFrom ps (m - width p) n ≡ true
+          → take n (drop (m - width p) (bytesOf ps v)) ≡ take n (drop (m - width p) (bytesOf ps w)))
+          → take n (drop m (bytesOf (p ∷ ps) v)) ≡ take n (drop m (bytesOf (p ∷ ps) w))
+      go true q h i =
+          unfold bytesOf soundRow roomyRow in
+          let a = both (soundPlace p) (soundRow ps) s in
+          let b = both (roomy p v) (roomyRow ps v) x in
+          let c = both (roomy p w) (roomyRow ps w) y in
+          let l = leb-true (width p) m q in
+          let past : (u : Values) → length (placed p u) ≡ width p → drop m (placed p u ++ bytesOf ps u) ≡ drop (m - width p) (bytesOf ps u) =
+          λ u k.
+          let z : m ≡ width p + (m - width p) = omega arith in
+          ap (λ (j : ℕ). drop j (placed p u ++ bytesOf ps u)) z ∙ sym (drop-drop (m - width p) (width p) (placed p u ++ bytesOf ps u))
+          ∙ ap (drop (m - width p)) (drop-at (placed p u) (bytesOf ps u) (width p) k) in
+          ap (take n) (past v (placed-length p v (a .0) (b .0))) ∙ i (a .1) (b .1) (c .1) h ∙ sym (ap (take n) (past w (placed-length p w (a .0) (c .0))))
+      go false q h i = take-drop m n _ ∙ ap (drop m) (front-alike (p ∷ ps) (m + n) e s x y h) ∙ sym (take-drop m n _)
+
+abbrev pub isByte : ℕ → Bool
+isByte b = ltb b 256
+
+xor-byte : (acc : ℕ) (s : List ℕ) → acc < 256 → allAre isByte s ≡ true → xorFrom acc s < 256
+unfolding xorFrom allAre
+xor-byte acc [] h l = h
+xor-byte acc (b ∷ s) h l =
+    let e = both (ltb b 256) (allAre isByte s) l in
+    xor-byte (bitXor acc b) s (xor-lt 8 acc b h (ltb-true b 256 (e .0))) (e .1)
+
+-- every checksum is below this
+abbrev pub ruleLimit : Rule → ℕ
+ruleLimit exclusiveOr = 256
+ruleLimit evenOnes = 2
+
+pub checksum-lt : (c : Checksum) (s : List ℕ) → allAre isByte s ≡ true → checksumOf c s < ruleLimit (c .rule)
+checksum-lt c s h = go (c .rule)
+  where
+    go : (m : Rule) → totalBy m (take (c .count) (drop (c .from) s)) < ruleLimit m
+    go exclusiveOr = xor-byte 0 _ (omega arith) (all-take isByte (c .count) _ (all-drop isByte (c .from) s h))
+    go evenOnes = omega arith

@@ -1,0 +1,31 @@
+-- The ring and the four numbers are stored one behind the other.
+use mathlib.Core.Path.{sym, ap, _∙_}
+use denote.Ref.{now}
+use lib.ListN.{length}
+use lib.Seq.{sets}
+use Rattle.lindenscoop.proofs.Heads.{state-laid}
+use borrow.Author.Needs.{needs}
+use Rattle.lindenscoop.proofs.state.put_state.Statement.{statement}
+use Rattle.lindenscoop.proofs.state.put_state.Tie as tie
+
+returns : tie.Need-returns
+returns c =
+    let form = c .before .before in
+    let distance = form .before .before .before .before in
+    let kept = distance .before .before .before .before in
+    let at = kept .before .before .before .before in
+    let bytes = at .before .before .before .before in
+    let ring = bytes .before .before .before .before .before .before .before .ring-in .ensures in
+    let a = bytes .before .before .before .before .before .before .before .before .before in
+    let out = now (a .args .out) in
+    let first = bytes .put-bytes .ensures ∙ ap (sets out 0) (ring .0) in
+    state-laid (a .args .l) out (sym (ap length (ring .0)) ∙ ring .1) (a .pre .0) first (at .put-byte .ensures) (kept .put-byte2 .ensures)
+    (distance .put-byte3 .ensures) (form .put-byte4 .ensures)
+
+pub put-state-spec : {M : Type 1} → statement M
+put-state-spec =
+    tie.close
+    (tie.spec
+    (λ c κs. search needs) (λ c. search needs) (λ c. search needs) (λ c. search needs) (λ c. search needs) (λ c. search needs)
+    (λ c κs. search needs) (λ c κs. search needs) (λ c κs. search needs) (λ c κs. search needs) (λ c κs. search needs) (λ c. search needs)
+    returns)

@@ -1,0 +1,93 @@
+// A listener for C programs.
+ghost use mathlib.Core.Path.{_≡_};
+ghost use mathlib.Core.Bool.{true};
+ghost use Rattle.listener.specs.Listening.{answerOf};
+ghost use Rattle.lindenscoop.specs.Buffers.{recordFits};
+ghost use Rattle.lindenscoop.specs.Listener.{FedAllAs, FedAs, StartedAs, answerNumber, answerNumbers};
+use crate::buffers::TOO_SHORT;
+use crate::buffers::both_fit;
+use crate::buffers::state_fits;
+use crate::run::feed_until;
+use crate::state::listener_of;
+use crate::state::put_state;
+use listener::Heard;
+use listener::Listener;
+
+// 0 for nothing, 100 for a record, else the refusal.
+fn heard_number(heard: Heard) -> u32
+    ensures { λ r. ⌜ r ≡ answerNumber (answerOf heard) ⌝ }
+{
+    match heard {
+        Heard::Handed(_) => 100,
+        Heard::Nothing => 0,
+        Heard::Refused(x) => x.number(),
+    }
+}
+
+// Stores a record that was handed out.
+fn put_heard(heard: Heard, row: &mut [u32])
+    requires { ⌜ recordFits (now row) ≡ true ⌝ }
+    ensures { λ _. ⌜ now (row .exit) ≡ answerNumbers (answerOf heard) (now (row .entry)) ⌝ }
+{
+    match heard {
+        Heard::Handed(r) => {
+            flat_record::put_record(r, row);
+        }
+        Heard::Nothing => {}
+        Heard::Refused(_) => {}
+    }
+}
+
+// A new listener.
+#[no_mangle]
+pub extern "C" fn lindenscoop_start_raw(form: u32, state: &mut [u8]) -> u32
+    ensures { λ n. ⌜ StartedAs form (now (state .entry)) n (now (state .exit)) ⌝ }
+{
+    if !state_fits(state) {
+        return TOO_SHORT;
+    }
+    let started = Listener::new(form);
+    let listener = started.listener;
+    let answer = started.answer;
+    put_state(listener, state);
+    answer.number()
+}
+
+// One byte; the record is changed where one is handed out.
+#[no_mangle]
+pub extern "C" fn lindenscoop_feed_raw(state: &mut [u8], byte: u8, row: &mut [u32]) -> u32
+    ensures { λ n. ⌜ FedAs (now (state .entry)) byte (now (row .entry)) n (now (state .exit)) (now (row .exit)) ⌝ }
+{
+    if !both_fit(state, row) {
+        return TOO_SHORT;
+    }
+    let fed = listener_of(state).feed(byte);
+    let next = fed.next;
+    let heard = fed.heard;
+    put_state(next, state);
+    put_heard(heard, row);
+    heard_number(heard)
+}
+
+// Bytes one after the other, up to the first that is answered by anything but nothing.
+#[no_mangle]
+pub extern "C" fn lindenscoop_feed_all_raw(
+    state: &mut [u8],
+    bytes: &[u8],
+    used: &mut usize,
+    row: &mut [u32],
+) -> u32
+    ensures { λ n. ⌜ FedAllAs (now (state .entry)) (now (bytes .entry)) (now (used .entry)) (now (row .entry)) n
+        (now (state .exit)) (now (used .exit)) (now (row .exit)) ⌝ }
+{
+    if !both_fit(state, row) {
+        return TOO_SHORT;
+    }
+    let ran = feed_until(listener_of(state), bytes);
+    let next = ran.listener;
+    let heard = ran.heard;
+    put_state(next, state);
+    *used = ran.used;
+    put_heard(heard, row);
+    heard_number(heard)
+}

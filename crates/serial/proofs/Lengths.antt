@@ -1,0 +1,98 @@
+-- A number is that of a serial form, which has from 16 bytes to as many as a listener holds, or of none, which has the length 0.
+use mathlib.Core.List.{List, [], _∷_}
+use mathlib.Core.Bool.{Bool, true, false, _&&_, false≢true}
+use mathlib.Core.Path.{_≡_, refl, sym, _∙_}
+use Prim.Native.Nat.{ℕ, _≤_, _<_}
+use native.Mathlib.Omega.{arith}
+use borrow.Author.Tests.{eqb-true, leb-true, lt-ltb, ltb-true}
+use lib.Dec.{eqb, leb, ltb}
+use Rattle.choice.specs.Pick.{pick}
+use Rattle.choice.proofs.Tests.{both}
+use Rattle.forms.specs.Form.{Form}
+use Rattle.forms.specs.Forms.{Layout, Numbered, block, isKnown, isSerial, layoutOf, serialForms, sized, unknown}
+use Rattle.forms.specs.Valid.{lengthAs, lengthOf}
+use Rattle.forms.proofs.Instances.{allPass, layout-passes}
+use Rattle.serial.specs.Shape.{longest}
+
+-- the form has from 16 bytes to as many as a listener holds
+abbrev isBounded : Layout → Bool
+isBounded (sized d) = leb 16 (d .size) && leb (d .size) longest
+isBounded (block x) = false
+isBounded unknown = true
+
+all-bounded : allPass isBounded serialForms ≡ true
+unfolding allPass
+all-bounded = refl
+
+-- a number is that of a form of such a length, or of none
+pub data Serial (n : ℕ) : Type 0 where
+  known : (d : Form) → layoutOf serialForms n ≡ sized d → 16 ≤ d .size → d .size ≤ longest → Serial n
+  other : layoutOf serialForms n ≡ unknown → Serial n
+
+pub serial : (n : ℕ) → Serial n
+serial n = go (layoutOf serialForms n) refl (layout-passes isBounded serialForms n all-bounded)
+  where
+    go : (l : Layout) → layoutOf serialForms n ≡ l → isBounded l ≡ true → Serial n
+    go (sized d) e h =
+        let b = both (leb 16 (d .size)) (leb (d .size) longest) h in
+        known d e (leb-true 16 (d .size) (b .0)) (leb-true (d .size) longest (b .1))
+    go (block x) e h = absurd (false≢true h)
+    go unknown e h = other e
+
+-- the lengths, and the numbers that have one
+
+module _ (n : ℕ) where
+  pub length-most : lengthOf n ≤ longest
+  unfolding lengthOf
+  length-most = go (serial n)
+    where
+      go : Serial n → lengthAs (layoutOf serialForms n) ≤ longest
+      go (known d e l m) = rw e m
+      go (other e) = rw e (omega arith)
+
+  pub length-least : (lengthOf n ≡ 0 → ⊥) → 16 ≤ lengthOf n
+  unfolding lengthOf
+  length-least h = go (serial n)
+    where
+      go : Serial n → 16 ≤ lengthAs (layoutOf serialForms n)
+      go (known d e l m) = rw e l
+      go (other e) = absurd (h (rw e refl))
+
+  is-serial : isSerial n ≡ ltb 0 (lengthOf n)
+  unfolding isSerial lengthOf
+  is-serial = go (serial n)
+    where
+      go : Serial n → isKnown (layoutOf serialForms n) ≡ ltb 0 (lengthAs (layoutOf serialForms n))
+      go (known d e l m) = rw e (sym (lt-ltb 0 (d .size) (omega arith)))
+      go (other e) = rw e
+
+  pub not-serial : lengthOf n ≡ 0 → isSerial n ≡ false
+  not-serial e = is-serial ∙ rw e
+
+  pub some-serial : (lengthOf n ≡ 0 → ⊥) → isSerial n ≡ true
+  some-serial h = is-serial ∙ lt-ltb 0 (lengthOf n) (omega arith)
+
+  pub serial-long : isSerial n ≡ true → 0 < lengthOf n
+  serial-long h = ltb-true 0 (lengthOf n) (sym is-serial ∙ h)
+
+-- a form's number fits a byte
+
+unfoldable allLow : List Numbered → Bool
+allLow [] = true
+allLow (e ∷ es) = ltb (e .number) 256 && allLow es
+
+low : (es : List Numbered) (n : ℕ) → allLow es ≡ true → isKnown (layoutOf es n) ≡ true → n < 256
+unfolding allLow layoutOf
+low [] n h k = absurd (false≢true k)
+low (e ∷ es) n h k =
+    let a = both (ltb (e .number) 256) (allLow es) h in
+    go (eqb n (e .number)) refl k (a .0) (low es n (a .1))
+  where
+    go : (t : Bool) → eqb n (e .number) ≡ t → isKnown (pick t (e .layout) (layoutOf es n)) ≡ true → ltb (e .number) 256 ≡ true
+        → (isKnown (layoutOf es n) ≡ true → n < 256) → n < 256
+    go true q k b i = rw (eqb-true n (e .number) q) (ltb-true (e .number) 256 b)
+    go false q k b i = i k
+
+pub serial-low : (n : ℕ) → isSerial n ≡ true → n < 256
+unfolding isSerial allLow
+serial-low n h = low serialForms n refl h

@@ -1,0 +1,44 @@
+-- Each number and each letter is a call; a shared letter tells two fields.
+use mathlib.Core.List.{List, [], _∷_}
+use mathlib.Core.Path.{refl}
+use Prim.Native.Nat.{ℕ}
+use native.Mathlib.Omega.{arith}
+use borrow.Author.Needs.{needs}
+use denote.Ref.{now}
+use Rattle.forms.specs.Carries.{carriesOf}
+use Rattle.forms.specs.Fields.Channel.{channelFrom}
+use Rattle.forms.specs.Fields.Date.{dateFrom}
+use Rattle.forms.specs.Fields.Flag.{flagFrom}
+use Rattle.forms.specs.Fields.Fraction.{fractionFrom}
+use Rattle.forms.specs.Fields.Offset.{minutesFrom, offsetFrom}
+use Rattle.forms.specs.Fields.Position.{positionFrom}
+use Rattle.forms.specs.Places.{has, values}
+use Rattle.layout.proofs.Letters.{flag-letter, letter-of}
+use Rattle.standard.proofs.decode.Statement.{statement}
+use Rattle.standard.proofs.decode.Tie as tie
+
+returns : tie.Need-returns
+unfolding carriesOf has values dateFrom fractionFrom channelFrom flagFrom offsetFrom positionFrom minutesFrom
+returns c =
+    let s = now (c .before .before .before .before .before .before .before .before .before .before .before .before .before .before .args .s) in
+    let l = c .before .before .before .before .before .before .before .before .before .before .before .before .before .before .pre in
+    let zones : List ℕ = 32 ∷ 83 ∷ 85 ∷ [] in
+    let notices : List ℕ = 32 ∷ 65 ∷ 33 ∷ [] in
+    let k = c .before .before .before .before .before .before in
+    simp (k .before .before .before .before .before .before .number-at .ensures .0)
+    (simp (k .before .before .before .before .before .number-at2 .ensures .0, k .before .before .before .before .number-at3 .ensures .0)
+    (simp (k .before .before .before .number-at4 .ensures .0, k .before .before .number-at5 .ensures .0)
+    (simp (k .before .number-at6 .ensures .0, k .flag-at .ensures, c .before .before .before .before .before .flag-at2 .ensures)
+    (simp (c .before .before .before .before .yes-at .ensures, c .before .before .before .yes-at2 .ensures)
+    (simp (c .before .before .yes-at3 .ensures, c .before .yes-at4 .ensures, c .empty .ensures, flag-letter s 27 (omega arith) 35 32)
+    (simp (flag-letter s 28 (omega arith) 42 32, letter-of s 29 (omega arith) zones 2 refl (omega arith))
+    (simp (letter-of s 29 (omega arith) zones 1 refl (omega arith), letter-of s 30 (omega arith) notices 2 refl (omega arith))
+    (simp (letter-of s 30 (omega arith) notices 1 refl (omega arith))))))))))
+
+pub decode-spec : {M : Type 1} → statement M
+decode-spec =
+    tie.close
+    (tie.spec
+    (λ c κs. search needs) (λ c κs. search needs) (λ c κs. search needs) (λ c κs. search needs) (λ c κs. search needs)
+    (λ c κs. search needs) (λ c κs. search needs) (λ c κs. search needs) (λ c κs. search needs) (λ c κs. search needs)
+    (λ c κs. search needs) (λ c κs. search needs) (λ c κs. search needs) returns)

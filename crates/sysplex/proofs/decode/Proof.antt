@@ -1,0 +1,30 @@
+-- Each number and the letter is a call, and the row carries the day of year and sync alone.
+use native.Mathlib.Omega.{arith}
+use borrow.Author.Needs.{needs}
+use denote.Ref.{now}
+use Rattle.forms.specs.Carries.{carriesOf}
+use Rattle.forms.specs.Fields.Channel.{channelFrom}
+use Rattle.forms.specs.Fields.Date.{dateFrom}
+use Rattle.forms.specs.Fields.Flag.{flagFrom}
+use Rattle.forms.specs.Fields.Fraction.{fractionFrom}
+use Rattle.forms.specs.Fields.Offset.{minutesFrom, offsetFrom}
+use Rattle.forms.specs.Fields.Position.{positionFrom}
+use Rattle.forms.specs.Places.{has, values}
+use Rattle.layout.proofs.Letters.{flag-letter}
+use Rattle.sysplex.proofs.decode.Statement.{statement}
+use Rattle.sysplex.proofs.decode.Tie as tie
+
+returns : tie.Need-returns
+unfolding carriesOf has values dateFrom fractionFrom channelFrom flagFrom offsetFrom positionFrom minutesFrom
+returns c =
+    let k = c .before .before .before in
+    simp (k .before .before .number-at .ensures .0, k .before .number-at2 .ensures .0, k .number-at3 .ensures .0)
+    (simp (c .before .before .number-at4 .ensures .0, c .before .flag-at .ensures, c .empty .ensures)
+    (simp (flag-letter (now (c .before .before .before .before .before .before .before .args .s)) 13 (omega arith) 63 32)))
+
+pub decode-spec : {M : Type 1} → statement M
+decode-spec =
+    tie.close
+    (tie.spec
+    (λ c κs. search needs) (λ c κs. search needs) (λ c κs. search needs) (λ c κs. search needs) (λ c κs. search needs)
+    (λ c κs. search needs) returns)

@@ -1,0 +1,22 @@
+-- The row carries a date of either kind and sync.
+use mathlib.Core.Bool.{true}
+use mathlib.Core.List.{[], _∷_}
+use borrow.Author.Needs.{needs}
+use Rattle.forms.specs.Carries.{carriesOf}
+use Rattle.forms.specs.Fields.Date.{hasDate, ordinalDate}
+use Rattle.forms.specs.Fields.Flag.{hasFlag}
+use Rattle.forms.specs.Needs.{hasAll}
+use Rattle.forms.specs.Places.{has}
+use Rattle.layout.proofs.Chain.{flat}
+use Rattle.sysplex.proofs.has_carried.Statement.{statement}
+use Rattle.sysplex.proofs.has_carried.Tie as tie
+
+returns : tie.Need-returns
+unfolding hasAll carriesOf has
+returns c =
+    let r = c .before .before .args .r in
+    simp (c .before .has-day-of-year .ensures, c .has-flag .ensures)
+    (flat (hasDate ordinalDate (r .date)) (hasFlag true (r .sync) ∷ []))
+
+pub has-carried-spec : {M : Type 1} → statement M
+has-carried-spec = tie.close (tie.spec (λ c κs. search needs) (λ c κs. search needs) returns)

@@ -1,0 +1,34 @@
+//! Records of the one program as records of the other.
+
+use lindenscoop::{Date, Fraction, Position, Record};
+
+pub fn record(r: &reference::Record) -> Record {
+    Record {
+        hour: r.hour,
+        minute: r.minute,
+        second: r.second,
+        date: r.date.map(|date| match date {
+            reference::Date::Full { year, month, day } => Date::Full { year, month, day },
+            reference::Date::DayOfYear(day) => Date::DayOfYear(day),
+        }),
+        fraction: r.fraction.map(|fraction| match fraction {
+            reference::Fraction::Thousandths(value) => Fraction::Thousandths(value),
+            reference::Fraction::TenMillionths(value) => Fraction::TenMillionths(value),
+        }),
+        channel: r.channel,
+        sync: r.sync,
+        fix: r.fix,
+        utc: r.utc,
+        summer: r.summer,
+        change: r.change,
+        leap: r.leap,
+        offset: r.offset,
+        position: r.position.map(|p| Position {
+            latitude: p.latitude,
+            longitude: p.longitude,
+            altitude: p.altitude,
+        }),
+        dsp: r.dsp,
+        lsp: r.lsp,
+    }
+}

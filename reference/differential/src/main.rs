@@ -1,0 +1,82 @@
+//! Compares the library with the independent reference program on seeded requests, and with the vectors.
+//!
+//!     differential SEED COUNT VECTORS  compares COUNT requests and every line of the folder VECTORS
+//!
+//! A mismatch is printed and fails. Before that it plants a fault on either side, and fails if that is not noticed.
+
+use std::collections::BTreeMap;
+use std::env;
+use std::error::Error;
+use std::path::Path;
+use std::process::ExitCode;
+
+use reference::generate::Requests;
+
+mod answers;
+mod convert;
+mod vectors;
+
+/// Whether two answers are one.
+fn agree(library: &str, reference: &str) -> bool {
+    library == reference
+}
+
+/// The answer with its first byte changed, as a fault would change it.
+fn faulty(answer: &str) -> String {
+    let other = if answer.starts_with('0') { "1" } else { "0" };
+    format!("{other}{}", answer.get(1..).unwrap_or(""))
+}
+
+/// A fault in either program's answer is noticed.
+fn notices_faults(seed: u64) -> bool {
+    Requests::new(seed).take(100).all(|request| {
+        let reference = reference::protocol::answer(&request);
+        let library = answers::answer(&request).unwrap_or_else(|| reference.clone());
+        !agree(&faulty(&library), &reference) && !agree(&library, &faulty(&reference))
+    })
+}
+
+/// How many requests were compared, and how many answers differ.
+fn compare(seed: u64, count: usize) -> (usize, usize) {
+    let mut compared: BTreeMap<String, usize> = BTreeMap::new();
+    let (mut asked, mut mismatches) = (0, 0);
+    for request in Requests::new(seed).take(count) {
+        let Some(library) = answers::answer(&request) else {
+            continue;
+        };
+        asked += 1;
+        let kind: Vec<&str> = request.split(' ').take(2).collect();
+        *compared.entry(kind.join(" form ")).or_default() += 1;
+        let reference = reference::protocol::answer(&request);
+        if !agree(&library, &reference) {
+            mismatches += 1;
+            println!("mismatch: {request}\n  library   {library}\n  reference {reference}");
+        }
+    }
+    for (kind, number) in compared.iter().filter(|(_, number)| **number >= 20) {
+        println!("{kind}: {number}");
+    }
+    println!("differential: {asked} of {count} requests compared, {mismatches} differ");
+    (asked, mismatches)
+}
+
+fn main() -> Result<ExitCode, Box<dyn Error>> {
+    let words: Vec<String> = env::args().skip(1).collect();
+    let [seed, count, folder] = &words[..] else {
+        return Err("usage: differential SEED COUNT VECTORS".into());
+    };
+    let seed = seed.parse()?;
+    if !notices_faults(seed) {
+        return Err("a planted fault was not noticed".into());
+    }
+    let (asked, mismatches) = compare(seed, count.parse()?);
+    let (agreed, differ) = vectors::compare(Path::new(folder))?;
+    differ.iter().for_each(|line| println!("differs: {line}"));
+    println!("vectors: {agreed} lines agree, {} differ", differ.len());
+    let good = asked > 0 && mismatches == 0 && agreed > 0 && differ.is_empty();
+    Ok(if good {
+        ExitCode::SUCCESS
+    } else {
+        ExitCode::FAILURE
+    })
+}

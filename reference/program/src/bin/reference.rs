@@ -1,0 +1,92 @@
+//! A filter that answers requests, so that another program can be compared with it.
+//!
+//!     reference                       answers each line of standard input with one line
+//!     reference generate SEED COUNT   prints COUNT requests, always the same for a seed
+//!     reference heard                 prints what the program `heard` prints for standard input
+//!
+//! F is a form, a decimal number 0..4294967295. HEX is bytes as pairs of hex digits (small ones in
+//! answers); no bytes at all are `-`. A record in an answer is its block (form 9) in hex. N is a
+//! number of refusal, 0 for none. Words are separated by one space. The requests:
+//!
+//!     read F HEX                      reads a string
+//!     writeraw F FIELDS LENGTH        writes a record into a buffer of LENGTH bytes 55
+//!     search F START HEX              searches from the place START on
+//!     listen F HEX                    starts a listener and feeds it the bytes
+//!     feed F DISTANCE HEX BYTE        feeds one byte to the state F, DISTANCE, kept bytes HEX
+//!
+//! The answers, in the same order:
+//!
+//!     N                               and behind 0 a space and the record
+//!     N WRITTEN HEX                   WRITTEN is the length returned, HEX the whole buffer after
+//!     N PLACE                         and behind 0 a space and the record; PLACE is 0 if refused
+//!     K:RECORD ...                    for each byte K, from 1, that hands out a record, or K!13;
+//!                                     `-` if no byte hands out anything. A form that a listener
+//!                                     refuses: `1`, and then K!11 for each byte
+//!     HEARD F DISTANCE HEX            HEARD is `-`, a record, `!11` or `!13`; then the next state
+//!
+//! A line that is no request is answered `?`.
+//!
+//! FIELDS is a list of 14 fields with commas and no spaces, in the block's order. `-` is absent:
+//!
+//!     date        full:Y:M:D or day:N         fraction    3:N (thousandths) or 7:N
+//!     time        H:M:S                       channel     N
+//!     sync, fix, utc, summer, change, leap    0 or 1 each
+//!     offset      minutes, with `-` in front if negative
+//!     position    LAT:LON:ALT (ten-thousandths of a degree, metres)
+//!     dsp, lsp    0 or 1 each
+//!
+//! `generate` keeps to values that fit in 8 bits (date, time, channel), 16 bits (day of year,
+//! altitude, signed offset) or 32 bits (fraction, signed latitude and longitude).
+
+use std::env;
+use std::io::{self, BufRead, BufWriter, Write};
+use std::process::ExitCode;
+
+use reference::generate::Requests;
+use reference::program;
+use reference::protocol::answer;
+
+fn answer_all() -> io::Result<()> {
+    let mut out = BufWriter::new(io::stdout().lock());
+    for line in io::stdin().lock().lines() {
+        writeln!(out, "{}", answer(&line?))?;
+    }
+    out.flush()
+}
+
+fn generate(seed: u64, count: usize) -> io::Result<()> {
+    let mut out = BufWriter::new(io::stdout().lock());
+    for request in Requests::new(seed).take(count) {
+        writeln!(out, "{request}")?;
+    }
+    out.flush()
+}
+
+fn heard() -> io::Result<()> {
+    let mut out = BufWriter::new(io::stdout().lock());
+    program::run(io::stdin().lock(), &mut out)?;
+    out.flush()
+}
+
+fn main() -> ExitCode {
+    let words: Vec<String> = env::args().skip(1).collect();
+    let words: Vec<&str> = words.iter().map(String::as_str).collect();
+    let done = match words[..] {
+        [] => answer_all(),
+        ["generate", seed, count] => match (seed.parse(), count.parse()) {
+            (Ok(seed), Ok(count)) => generate(seed, count),
+            _ => Err(io::Error::other("SEED and COUNT are numbers")),
+        },
+        ["heard"] => heard(),
+        _ => Err(io::Error::other(
+            "use: reference [generate SEED COUNT | heard]",
+        )),
+    };
+    match done {
+        Ok(()) => ExitCode::SUCCESS,
+        Err(error) => {
+            eprintln!("reference: {error}");
+            ExitCode::FAILURE
+        }
+    }
+}

@@ -1,0 +1,1 @@
+"""What scripts/try-mutants.py is made of."""
