@@ -12,9 +12,18 @@
  * What the exported functions ask of their caller, and nothing else:
  *   - a pointer is not null, also where the length behind it is 0, and is aligned for its type;
  *   - behind it stand as many elements as the length says, one for a size_t *;
- *   - a buffer that is not const overlaps no other argument.
- * Every value and every length, 0 included, is answered. A buffer that is too short is refused with
- * LINDENSCOOP_SHORT_BUFFER, and nothing is changed. Elements behind those that a function stores are left as they are.
+ *   - what stands behind a pointer that is not const overlaps no other argument.
+ * Every value and every length, 0 included, is answered.
+ *
+ * What every one of them does:
+ *   - fewer than 29 numbers for a record, or fewer than 70 bytes for a listener, are refused with
+ *     LINDENSCOOP_SHORT_BUFFER before all else, and no buffer is changed. The numbers and bytes behind these are
+ *     neither looked at nor changed;
+ *   - a call that is refused otherwise leaves every buffer as it was, but for these: a refused read or search stores
+ *     the empty record, a start that is refused with 1 stores a state that answers every byte with 11, and 13 moves
+ *     the listener on;
+ *   - a size_t is stored by every call. *written and *place are 0 after every refusal. *used is the number of bytes
+ *     that were fed, a refused one included, and 0 after LINDENSCOOP_SHORT_BUFFER.
  *
  * What the functions over the structs ask: the same, except that a pointer to bytes may be null where its length is 0.
  * Pointers to structs and to size_t are not null.
@@ -50,7 +59,7 @@ enum {
     LINDENSCOOP_WRONG_BYTE = 3,
     LINDENSCOOP_OUT_OF_RANGE = 4,
     LINDENSCOOP_DISAGREEMENT = 5,
-    LINDENSCOOP_WRONG_SUM = 6,
+    LINDENSCOOP_WRONG_CHECKSUM = 6,
     LINDENSCOOP_BAD_RECORD = 7,
     LINDENSCOOP_MISSING_FIELD = 8,
     LINDENSCOOP_NOT_EXPRESSIBLE = 9,
@@ -81,10 +90,10 @@ enum {
 };
 
 /*
- * A record. The numbers of an absent field are 0 when the library stores them, and are not looked at when it is
- * given them. The library refuses a kind that is none of the above, a sign that is not 0 or 1, and a magnitude above
- * 2147483647 with LINDENSCOOP_BAD_RECORD; a sign of 1 on a magnitude of 0 is dropped. The library stores 0 or 1 as a
- * sign, and 0 on a magnitude of 0.
+ * A record. The numbers of an absent field, and those of a date of the other kind, are 0 when the library stores them,
+ * and are not looked at when it is given them. A kind that is none of its field's, and in a field that is there a sign
+ * that is not 0 or 1 or a magnitude above 2147483647, are refused with LINDENSCOOP_BAD_RECORD; a sign of 1 on a
+ * magnitude of 0 is dropped. The library stores 0 or 1 as a sign, and 0 on a magnitude of 0.
  */
 typedef struct lindenscoop_record {
     uint32_t hour;                    /* 0..23 */
@@ -118,41 +127,46 @@ typedef struct lindenscoop_record {
     uint32_t lsp;                     /* leap second pending */
 } lindenscoop_record;
 
-/* A listener. Any bytes are safe to hand in: those that are no state are refused with LINDENSCOOP_BAD_STATE. */
+/* A listener. Any bytes are safe to hand in: where they are no listener's state, each byte that is fed is refused with
+   LINDENSCOOP_BAD_STATE. */
 typedef struct lindenscoop_listener {
     uint8_t bytes[LINDENSCOOP_LISTENER_BYTES];
 } lindenscoop_listener;
 
-/* The struct is the row of numbers that the exported functions take. */
+/* The structs are the numbers and the bytes that the exported functions take. */
 typedef char lindenscoop_record_has_no_padding[sizeof(lindenscoop_record) == LINDENSCOOP_RECORD_NUMBERS * sizeof(uint32_t) ? 1 : -1];
 typedef char lindenscoop_listener_has_no_padding[sizeof(lindenscoop_listener) == LINDENSCOOP_LISTENER_BYTES ? 1 : -1];
 
-/* ---- The exported functions. A row is a record as numbers in the order of the struct. ---- */
+/* ---- The exported functions. The numbers are those of a record in the order of the struct. ---- */
 
-/* The record of a string. Stores 29 numbers, those of the empty record where the string is refused.
-   10, before all else: row_length is below 29. */
-uint32_t lindenscoop_read_raw(uint32_t form, const uint8_t *input, size_t input_length, uint32_t *row, size_t row_length);
+/* The record of a string, in the first 29 numbers; the empty record where the string is refused.
+   10, before all else: numbers_length is below 29; nothing is stored. */
+uint32_t lindenscoop_read_raw(uint32_t form, const uint8_t *input, size_t input_length, uint32_t *numbers, size_t numbers_length);
 
-/* The string of a record, at the head of out; *written is its length, 0 where it is refused, which changes nothing else.
-   7: also where row_length is not 29. 10: out_length is below the string's length. Tested in the order 1, 7, 8, 9, 10. */
-uint32_t lindenscoop_write_raw(uint32_t form, const uint32_t *row, size_t row_length, uint8_t *out, size_t out_length, size_t *written);
+/* The string of a record, at the head of out; *written is its length. A refused write changes no byte and stores 0 in
+   *written. 10, before all else: numbers_length is below 29. Then, in the order 1, 7, 8, 9, 10: the writer's refusals;
+   7 also where the numbers are no record, 10 where out_length is below the string's length. */
+uint32_t lindenscoop_write_raw(uint32_t form, const uint32_t *numbers, size_t numbers_length, uint8_t *out, size_t out_length, size_t *written);
 
-/* The first valid string at or after start, which may be past the end. Stores its place and its record; place 0 and
-   the empty record where it is refused with 1 or 12. 10, before all else: row_length is below 29; nothing is stored. */
-uint32_t lindenscoop_search_raw(uint32_t form, const uint8_t *bytes, size_t bytes_length, size_t start, size_t *place, uint32_t *row, size_t row_length);
+/* The first valid string at or after start, which may be past the end: its place in *place, its record in the first 29
+   numbers. Place 0 and the empty record where it is refused with 1 or 12, tested in this order.
+   10, before all else: numbers_length is below 29; *place is 0, and no number is stored. */
+uint32_t lindenscoop_search_raw(uint32_t form, const uint8_t *bytes, size_t bytes_length, size_t start, size_t *place, uint32_t *numbers, size_t numbers_length);
 
 /* A new listener, in the first 70 bytes. 1: the form is not 1..7; the state stored then answers every byte with 11.
-   10, before all else: state_length is below 70. */
+   10, before all else: state_length is below 70; nothing is stored. */
 uint32_t lindenscoop_start_raw(uint32_t form, uint8_t *state, size_t state_length);
 
-/* Feeds one byte. 0: nothing. 100: a record is handed out and stored in row. 13: as 0, in place of a record that
-   overlaps the last one. 11: not a state, and left as it is. The row is changed by 100 alone.
-   10, before all else: state_length is below 70 or row_length below 29. */
-uint32_t lindenscoop_feed_raw(uint8_t *state, size_t state_length, uint8_t byte, uint32_t *row, size_t row_length);
+/* Feeds one byte. 0: nothing. 100: a record is handed out and stored in the first 29 numbers, which nothing else
+   changes. 13: as 0, in place of a record that overlaps the last one. 11: not a state, and left as it is.
+   10, before all else: state_length is below 70 or numbers_length below 29; nothing is stored. */
+uint32_t lindenscoop_feed_raw(uint8_t *state, size_t state_length, uint8_t byte, uint32_t *numbers, size_t numbers_length);
 
-/* Feeds bytes one after the other, up to the first that is answered by anything but 0, and returns that answer;
-   *used is how many were fed. 0: all were fed and nothing was heard. 10: as for one byte; *used is left as it is. */
-uint32_t lindenscoop_feed_all_raw(uint8_t *state, size_t state_length, const uint8_t *bytes, size_t bytes_length, size_t *used, uint32_t *row, size_t row_length);
+/* Feeds bytes one after the other, up to the first that is answered by anything but 0, and returns that answer; *used
+   is how many were fed, that one included. 0: all were fed and nothing was heard. 10: as for one byte; *used is 0.
+   A call that is lent bytes and is not answered 10 uses one at least. Called again behind the bytes used, and on
+   buffer after buffer, it answers to every byte as lindenscoop_feed_raw does, wherever the buffers end. */
+uint32_t lindenscoop_feed_all_raw(uint8_t *state, size_t state_length, const uint8_t *bytes, size_t bytes_length, size_t *used, uint32_t *numbers, size_t numbers_length);
 
 /* Runs a new listener over bytes: marks[i] is 1 where byte i completes a valid string, else 0, for each of them.
    1: the form is not 1..7. 10: marks_length is below bytes_length. Tested in this order; neither changes a mark. */
@@ -171,14 +185,14 @@ static inline const uint8_t *lindenscoop_bytes(const void *bytes)
     return bytes ? (const uint8_t *)bytes : &none;
 }
 
-static inline uint32_t *lindenscoop_row(lindenscoop_record *record)
+static inline uint32_t *lindenscoop_numbers(lindenscoop_record *record)
 {
     return (uint32_t *)record;
 }
 
 static inline uint32_t lindenscoop_read(uint32_t form, const void *input, size_t length, lindenscoop_record *record)
 {
-    return lindenscoop_read_raw(form, lindenscoop_bytes(input), length, lindenscoop_row(record), LINDENSCOOP_RECORD_NUMBERS);
+    return lindenscoop_read_raw(form, lindenscoop_bytes(input), length, lindenscoop_numbers(record), LINDENSCOOP_RECORD_NUMBERS);
 }
 
 static inline uint32_t lindenscoop_write(uint32_t form, const lindenscoop_record *record, void *out, size_t length, size_t *written)
@@ -189,7 +203,7 @@ static inline uint32_t lindenscoop_write(uint32_t form, const lindenscoop_record
 
 static inline uint32_t lindenscoop_search(uint32_t form, const void *bytes, size_t length, size_t start, size_t *place, lindenscoop_record *record)
 {
-    return lindenscoop_search_raw(form, lindenscoop_bytes(bytes), length, start, place, lindenscoop_row(record), LINDENSCOOP_RECORD_NUMBERS);
+    return lindenscoop_search_raw(form, lindenscoop_bytes(bytes), length, start, place, lindenscoop_numbers(record), LINDENSCOOP_RECORD_NUMBERS);
 }
 
 static inline uint32_t lindenscoop_start(uint32_t form, lindenscoop_listener *listener)
@@ -199,12 +213,12 @@ static inline uint32_t lindenscoop_start(uint32_t form, lindenscoop_listener *li
 
 static inline uint32_t lindenscoop_feed(lindenscoop_listener *listener, uint8_t byte, lindenscoop_record *record)
 {
-    return lindenscoop_feed_raw(listener->bytes, LINDENSCOOP_LISTENER_BYTES, byte, lindenscoop_row(record), LINDENSCOOP_RECORD_NUMBERS);
+    return lindenscoop_feed_raw(listener->bytes, LINDENSCOOP_LISTENER_BYTES, byte, lindenscoop_numbers(record), LINDENSCOOP_RECORD_NUMBERS);
 }
 
 static inline uint32_t lindenscoop_feed_all(lindenscoop_listener *listener, const void *bytes, size_t length, size_t *used, lindenscoop_record *record)
 {
-    return lindenscoop_feed_all_raw(listener->bytes, LINDENSCOOP_LISTENER_BYTES, lindenscoop_bytes(bytes), length, used, lindenscoop_row(record), LINDENSCOOP_RECORD_NUMBERS);
+    return lindenscoop_feed_all_raw(listener->bytes, LINDENSCOOP_LISTENER_BYTES, lindenscoop_bytes(bytes), length, used, lindenscoop_numbers(record), LINDENSCOOP_RECORD_NUMBERS);
 }
 
 static inline uint32_t lindenscoop_mark(uint32_t form, const void *bytes, size_t length, uint8_t *marks, size_t marks_length)
@@ -229,7 +243,7 @@ static inline const char *lindenscoop_message(uint32_t answer)
         return "a number is outside its range, or there is no such date";
     case LINDENSCOOP_DISAGREEMENT:
         return "two parts disagree: weekday and date, `L` and second 60, seconds of the day and time, a minus on a zero, utc and summer both yes";
-    case LINDENSCOOP_WRONG_SUM:
+    case LINDENSCOOP_WRONG_CHECKSUM:
         return "the SPA sum or the frame's parity is wrong";
     case LINDENSCOOP_BAD_RECORD:
         return "the record to be written is bad";

@@ -91,7 +91,7 @@ static uint32_t sometimes(uint32_t usual, uint32_t other)
 
 static void random_record(lindenscoop_record *r)
 {
-    uint32_t *row = (uint32_t *)r;
+    uint32_t *numbers = (uint32_t *)r;
     memset(r, 0, sizeof *r);
     r->hour = sometimes(draw(24), draw(30));
     r->minute = draw(60);
@@ -106,7 +106,7 @@ static void random_record(lindenscoop_record *r)
     r->channel = sometimes(1, draw(4));
     r->channel_number = sometimes(draw(2), 2);
     for (int i = 12; i < 18; i++)
-        row[i] = sometimes(1 + draw(2), draw(5));
+        numbers[i] = sometimes(1 + draw(2), draw(5));
     if (draw(8))
         r->utc = 1;
     r->dsp = sometimes(1 + draw(2), draw(4));
@@ -114,7 +114,7 @@ static void random_record(lindenscoop_record *r)
     lindenscoop_set_offset(r, (int32_t)draw(57) * 30 - 840);
     lindenscoop_set_position(r, (int32_t)draw(1800001) - 900000, (int32_t)draw(3600001) - 1800000, sometimes(draw(10000), 10000));
     if (!draw(30))
-        row[draw(NUMBERS)] = draw(2) ? draw(3) : 0xffffffffu - draw(2) * 0x7fffffffu;
+        numbers[draw(NUMBERS)] = draw(2) ? draw(3) : 0xffffffffu - draw(2) * 0x7fffffffu;
 }
 
 static uint32_t random_form(void)
@@ -180,32 +180,38 @@ static void call_read(void)
     unsigned char bytes[400];
     uint32_t form = random_form();
     size_t length = draw(4) ? random_string(form, bytes, 174) : random_bytes(form, bytes, 400);
-    size_t row_length = cut(NUMBERS);
+    size_t numbers_length = cut(NUMBERS);
     uint8_t *input = lend(0, bytes, length);
-    uint32_t *row = lend(1, NULL, 4 * row_length);
-    uint32_t answer = seen(lindenscoop_read_raw(form, input, length, row, row_length));
+    uint32_t *numbers = lend(1, NULL, 4 * numbers_length);
+    uint32_t answer = seen(lindenscoop_read_raw(form, input, length, numbers, numbers_length));
     CHECK(memcmp(input, bytes, length) == 0);
-    CHECK((answer == 10) == (row_length < NUMBERS));
+    CHECK((answer == 10) == (numbers_length < NUMBERS));
     if (answer == 10)
-        CHECK(is_filled(row, 4 * row_length));
+        CHECK(is_filled(numbers, 4 * numbers_length));
     else if (answer != 0)
         for (int i = 0; i < NUMBERS; i++)
-            CHECK(row[i] == 0);
-    CHECK(answer == 10 || is_filled(row + NUMBERS, 4 * (row_length - NUMBERS)));
+            CHECK(numbers[i] == 0);
+    CHECK(answer == 10 || is_filled(numbers + NUMBERS, 4 * (numbers_length - NUMBERS)));
 }
 
+/* What stands behind the numbers of a record makes no difference */
 static void call_write(void)
 {
     lindenscoop_record r, back;
-    size_t written_there = 77, row_length = draw(20) ? NUMBERS : draw(NUMBERS), length = draw(3) ? 118 + draw(60) : draw(120);
+    uint32_t there[NUMBERS + 2];
+    uint8_t alone[200];
+    size_t written_there = 77, written_alone = 77, numbers_length = cut(NUMBERS), length = draw(3) ? 118 + draw(60) : draw(120);
     uint32_t form = random_form();
     random_record(&r);
-    const uint32_t *row = lend(0, &r, 4 * row_length);
+    memset(there, FILLING, sizeof there);
+    memcpy(there, &r, sizeof r);
+    const uint32_t *numbers = lend(0, there, 4 * numbers_length);
     uint8_t *out = lend(1, NULL, length);
     size_t *written = lend(2, &written_there, sizeof written_there);
-    uint32_t answer = seen(lindenscoop_write_raw(form, row, row_length, out, length, written));
-    CHECK(row_length == NUMBERS || answer == 7 || answer == 1);
-    CHECK(answer == 0 || *written == 0);
+    uint32_t answer = seen(lindenscoop_write_raw(form, numbers, numbers_length, out, length, written));
+    CHECK(answer == (numbers_length < NUMBERS ? 10 : lindenscoop_write(form, &r, alone, length, &written_alone)));
+    CHECK(memcmp(numbers, there, 4 * numbers_length) == 0);
+    CHECK(answer == 0 ? *written == written_alone && memcmp(out, alone, *written) == 0 : *written == 0);
     CHECK(*written <= length && is_filled(out + *written, length - *written));
     if (answer == 0)
         CHECK(lindenscoop_read(form, out, *written, &back) == 0 && back.hour == r.hour && back.minute == r.minute && back.second == r.second);
@@ -217,14 +223,14 @@ static void call_search(void)
     uint32_t form = random_form();
     size_t length = draw(3) ? random_bytes(form, bytes, 400) : random_string(form, bytes, 400);
     size_t start = draw(10) ? draw(2) * draw(80) : draw(2) ? length : SIZE_MAX - draw(70);
-    size_t row_length = cut(NUMBERS), place_there = 77;
+    size_t numbers_length = cut(NUMBERS), place_there = 77;
     uint8_t *input = lend(0, bytes, length);
-    uint32_t *row = lend(1, NULL, 4 * row_length);
+    uint32_t *numbers = lend(1, NULL, 4 * numbers_length);
     size_t *place = lend(2, &place_there, sizeof place_there);
-    uint32_t answer = seen(lindenscoop_search_raw(form, input, length, start, place, row, row_length));
-    CHECK((answer == 10) == (row_length < NUMBERS));
-    CHECK(answer == 0 ? *place >= start && *place < length : *place == (answer == 10 ? 77 : 0));
-    CHECK(answer == 10 ? is_filled(row, 4 * row_length) : is_filled(row + NUMBERS, 4 * (row_length - NUMBERS)));
+    uint32_t answer = seen(lindenscoop_search_raw(form, input, length, start, place, numbers, numbers_length));
+    CHECK((answer == 10) == (numbers_length < NUMBERS));
+    CHECK(answer == 0 ? *place >= start && *place < length : *place == 0);
+    CHECK(answer == 10 ? is_filled(numbers, 4 * numbers_length) : is_filled(numbers + NUMBERS, 4 * (numbers_length - NUMBERS)));
 }
 
 /* A state: started, or any bytes */
@@ -262,39 +268,39 @@ static void call_feed(void)
     lindenscoop_record record;
     lindenscoop_listener one;
     uint32_t form = sometimes(1 + draw(7), draw(12)), answer, single = 0;
-    size_t length = random_bytes(form, bytes, 400), state_length = cut(STATE), row_length = cut(NUMBERS), used_there = 77, i = 0;
+    size_t length = random_bytes(form, bytes, 400), state_length = cut(STATE), numbers_length = cut(NUMBERS), used_there = 77, i = 0;
     memset(before, FILLING, sizeof before);
     random_state(form, before);
     uint8_t *state = lend(0, before, state_length);
     uint8_t *input = lend(1, bytes, length);
-    uint32_t *row = lend(2, NULL, 4 * row_length);
+    uint32_t *numbers = lend(2, NULL, 4 * numbers_length);
     size_t *used = lend(3, &used_there, sizeof used_there);
-    answer = seen(lindenscoop_feed_all_raw(state, state_length, input, length, used, row, row_length));
+    answer = seen(lindenscoop_feed_all_raw(state, state_length, input, length, used, numbers, numbers_length));
     if (answer == 10) {
-        CHECK(state_length < STATE || row_length < NUMBERS);
-        CHECK(*used == 77 && memcmp(state, before, state_length) == 0 && is_filled(row, 4 * row_length));
+        CHECK(state_length < STATE || numbers_length < NUMBERS);
+        CHECK(*used == 0 && memcmp(state, before, state_length) == 0 && is_filled(numbers, 4 * numbers_length));
         return;
     }
     memcpy(one.bytes, before, STATE);
     while (i < length && single == 0)
         single = lindenscoop_feed(&one, bytes[i++], &record);
     CHECK(answer == single && *used == i && memcmp(state, one.bytes, STATE) == 0);
-    CHECK(answer == 100 ? memcmp(row, &record, sizeof record) == 0 : is_filled(row, 4 * row_length));
-    CHECK(is_filled(row + NUMBERS, 4 * (row_length - NUMBERS)) && is_filled(state + STATE, state_length - STATE));
+    CHECK(answer == 100 ? memcmp(numbers, &record, sizeof record) == 0 : is_filled(numbers, 4 * numbers_length));
+    CHECK(is_filled(numbers + NUMBERS, 4 * (numbers_length - NUMBERS)) && is_filled(state + STATE, state_length - STATE));
 }
 
 /* One byte at the edge of short buffers */
 static void call_feed_byte(void)
 {
     unsigned char before[STATE + 2];
-    size_t state_length = cut(STATE), row_length = cut(NUMBERS);
+    size_t state_length = cut(STATE), numbers_length = cut(NUMBERS);
     memset(before, FILLING, sizeof before);
     random_state(1 + draw(7), before);
     uint8_t *state = lend(0, before, state_length);
-    uint32_t *row = lend(1, NULL, 4 * row_length);
-    uint32_t answer = seen(lindenscoop_feed_raw(state, state_length, (uint8_t)draw(256), row, row_length));
-    CHECK((answer == 10) == (state_length < STATE || row_length < NUMBERS));
-    CHECK(answer == 100 || is_filled(row, 4 * row_length));
+    uint32_t *numbers = lend(1, NULL, 4 * numbers_length);
+    uint32_t answer = seen(lindenscoop_feed_raw(state, state_length, (uint8_t)draw(256), numbers, numbers_length));
+    CHECK((answer == 10) == (state_length < STATE || numbers_length < NUMBERS));
+    CHECK(answer == 100 || is_filled(numbers, 4 * numbers_length));
     CHECK((answer != 10 && answer != 11) || memcmp(state, before, state_length) == 0);
 }
 
@@ -304,19 +310,19 @@ static void call_overlap(void)
     unsigned char bytes[174];
     lindenscoop_listener listener;
     lindenscoop_record record;
-    uint32_t form = 1 + draw(7), row[NUMBERS], answer;
+    uint32_t form = 1 + draw(7), numbers[NUMBERS], answer;
     size_t length = random_string(form, bytes, sizeof bytes), used = 0;
     if (length == 0 || lindenscoop_read(form, bytes, length, &record) != 0)
         return;
     lindenscoop_start(form, &listener);
-    memset(row, FILLING, sizeof row);
-    CHECK(lindenscoop_feed_all_raw(listener.bytes, STATE, bytes, length - 1, &used, row, NUMBERS) == 0 && used == length - 1);
+    memset(numbers, FILLING, sizeof numbers);
+    CHECK(lindenscoop_feed_all_raw(listener.bytes, STATE, bytes, length - 1, &used, numbers, NUMBERS) == 0 && used == length - 1);
     CHECK(listener.bytes[KEPT] == length - 1 && listener.bytes[DISTANCE] == length);
     listener.bytes[DISTANCE] = (uint8_t)(draw(2) ? length - 1 : draw((uint32_t)length - 1));
     used = listener.bytes[DISTANCE];
-    answer = seen(lindenscoop_feed_raw(listener.bytes, STATE, bytes[length - 1], row, NUMBERS));
+    answer = seen(lindenscoop_feed_raw(listener.bytes, STATE, bytes[length - 1], numbers, NUMBERS));
     CHECK(answer == (used < length - 1 ? 13u : 100u));
-    CHECK(answer == 13 ? is_filled(row, sizeof row) && listener.bytes[DISTANCE] == used + 1 : memcmp(row, &record, sizeof record) == 0 && listener.bytes[DISTANCE] == 0);
+    CHECK(answer == 13 ? is_filled(numbers, sizeof numbers) && listener.bytes[DISTANCE] == used + 1 : memcmp(numbers, &record, sizeof record) == 0 && listener.bytes[DISTANCE] == 0);
 }
 
 /* The marks are where a listener hands out */

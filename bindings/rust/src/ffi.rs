@@ -17,13 +17,13 @@ extern "C" {
         form: u32,
         input: *const u8,
         input_length: usize,
-        record: *mut u32,
-        record_length: usize,
+        numbers: *mut u32,
+        numbers_length: usize,
     ) -> u32;
     fn lindenscoop_write_raw(
         form: u32,
-        record: *const u32,
-        record_length: usize,
+        numbers: *const u32,
+        numbers_length: usize,
         out: *mut u8,
         out_length: usize,
         written: *mut usize,
@@ -31,58 +31,58 @@ extern "C" {
     fn lindenscoop_search_raw(
         form: u32,
         bytes: *const u8,
-        length: usize,
+        bytes_length: usize,
         start: usize,
         place: *mut usize,
-        record: *mut u32,
-        record_length: usize,
+        numbers: *mut u32,
+        numbers_length: usize,
     ) -> u32;
     fn lindenscoop_start_raw(form: u32, state: *mut u8, state_length: usize) -> u32;
     fn lindenscoop_feed_raw(
         state: *mut u8,
         state_length: usize,
         byte: u8,
-        record: *mut u32,
-        record_length: usize,
+        numbers: *mut u32,
+        numbers_length: usize,
     ) -> u32;
     fn lindenscoop_feed_all_raw(
         state: *mut u8,
         state_length: usize,
         bytes: *const u8,
-        length: usize,
+        bytes_length: usize,
         used: *mut usize,
-        record: *mut u32,
-        record_length: usize,
+        numbers: *mut u32,
+        numbers_length: usize,
     ) -> u32;
     fn lindenscoop_mark_raw(
         form: u32,
         bytes: *const u8,
-        length: usize,
+        bytes_length: usize,
         marks: *mut u8,
         marks_length: usize,
     ) -> u32;
 }
 
 pub fn read(form: u32, input: &[u8]) -> (u32, FlatRecord) {
-    let mut record = [0; RECORD_NUMBERS];
+    let mut numbers = [0; RECORD_NUMBERS];
     let number = unsafe {
         lindenscoop_read_raw(
             form,
             input.as_ptr(),
             input.len(),
-            record.as_mut_ptr(),
+            numbers.as_mut_ptr(),
             RECORD_NUMBERS,
         )
     };
-    (number, record)
+    (number, numbers)
 }
 
-pub fn write(form: u32, record: &FlatRecord, out: &mut [u8]) -> (u32, usize) {
+pub fn write(form: u32, numbers: &FlatRecord, out: &mut [u8]) -> (u32, usize) {
     let mut written = 0;
     let number = unsafe {
         lindenscoop_write_raw(
             form,
-            record.as_ptr(),
+            numbers.as_ptr(),
             RECORD_NUMBERS,
             out.as_mut_ptr(),
             out.len(),
@@ -93,7 +93,7 @@ pub fn write(form: u32, record: &FlatRecord, out: &mut [u8]) -> (u32, usize) {
 }
 
 pub fn search(form: u32, bytes: &[u8], start: usize) -> (u32, usize, FlatRecord) {
-    let (mut place, mut record) = (0, [0; RECORD_NUMBERS]);
+    let (mut place, mut numbers) = (0, [0; RECORD_NUMBERS]);
     let number = unsafe {
         lindenscoop_search_raw(
             form,
@@ -101,11 +101,11 @@ pub fn search(form: u32, bytes: &[u8], start: usize) -> (u32, usize, FlatRecord)
             bytes.len(),
             start,
             &mut place,
-            record.as_mut_ptr(),
+            numbers.as_mut_ptr(),
             RECORD_NUMBERS,
         )
     };
-    (number, place, record)
+    (number, place, numbers)
 }
 
 pub fn start(form: u32, state: &mut State) -> u32 {
@@ -113,21 +113,21 @@ pub fn start(form: u32, state: &mut State) -> u32 {
 }
 
 pub fn feed(state: &mut State, byte: u8) -> (u32, FlatRecord) {
-    let mut record = [0; RECORD_NUMBERS];
+    let mut numbers = [0; RECORD_NUMBERS];
     let number = unsafe {
         lindenscoop_feed_raw(
             state.as_mut_ptr(),
             STATE_BYTES,
             byte,
-            record.as_mut_ptr(),
+            numbers.as_mut_ptr(),
             RECORD_NUMBERS,
         )
     };
-    (number, record)
+    (number, numbers)
 }
 
 pub fn feed_all(state: &mut State, bytes: &[u8]) -> (u32, usize, FlatRecord) {
-    let (mut used, mut record) = (0, [0; RECORD_NUMBERS]);
+    let (mut used, mut numbers) = (0, [0; RECORD_NUMBERS]);
     let number = unsafe {
         lindenscoop_feed_all_raw(
             state.as_mut_ptr(),
@@ -135,11 +135,11 @@ pub fn feed_all(state: &mut State, bytes: &[u8]) -> (u32, usize, FlatRecord) {
             bytes.as_ptr(),
             bytes.len(),
             &mut used,
-            record.as_mut_ptr(),
+            numbers.as_mut_ptr(),
             RECORD_NUMBERS,
         )
     };
-    (number, used, record)
+    (number, used, numbers)
 }
 
 pub fn mark(form: u32, bytes: &[u8], marks: &mut [u8]) -> u32 {

@@ -1,4 +1,4 @@
-//! A record as the row of numbers in which it crosses to the library, in the order of the struct in lindenscoop.h.
+//! A record as the numbers in which it crosses to the library, in the order of the struct in lindenscoop.h.
 
 use crate::ffi::{FlatRecord, RECORD_NUMBERS};
 use crate::record::{Date, Fraction, Position, Record};

@@ -31,7 +31,7 @@ refusals! {
     WrongByte = 3, "a fixed byte, digit, letter, padding, mark, key or spelling is wrong";
     OutOfRange = 4, "a number is outside its range, or there is no such date";
     Disagreement = 5, "two parts disagree: weekday and date, `L` and second 60, seconds of the day and time, a minus on a zero, utc and summer both yes";
-    WrongSum = 6, "the SPA sum or the frame's parity is wrong";
+    WrongChecksum = 6, "the SPA sum or the frame's parity is wrong";
     BadRecord = 7, "the record to be written is bad";
     MissingField = 8, "a field that the form carries is absent or of the other kind";
     NotExpressible = 9, "the form has no letter for the record's values";
@@ -45,7 +45,7 @@ impl Refusal {
     /// The number, as the library and its papers have it.
     ///
     /// ```
-    /// assert_eq!(lindenscoop::Refusal::WrongSum.number(), 6);
+    /// assert_eq!(lindenscoop::Refusal::WrongChecksum.number(), 6);
     /// ```
     pub fn number(self) -> u32 {
         self as u32

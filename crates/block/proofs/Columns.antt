@@ -1,15 +1,8 @@
--- A line at a column is the line at the head of the part from there on, and a slot is told by the row that has it.
-use mathlib.Core.Path.{_≡_, refl, sym, _∙_, ap, ap₂}
-use mathlib.Core.Bool.{Bool, true, false, _&&_, _||_, false≢true}
-use mathlib.Core.List.{List, [], _∷_, _++_}
-use Prim.Native.Nat.{ℕ, _+_}
-use native.Mathlib.Nat.{zero-add}
-use native.Mathlib.Omega.{arith}
-use lib.ListN.{take, drop}
-use lib.Seq.{drop-drop}
-use Rattle.choice.specs.Pick.{pick}
-use Rattle.forms.specs.Block.{Line, layoutAt}
-use Rattle.forms.specs.Places.{Row, fits, has, isOf, rowWidth, shape, valueAt, values, width}
+-- A line at a column is the line at the head of the part from there on, and a slot is told by the layout that has it.
+use Rattle.cond.proofs.Kit.{[], _&&_, _++_, _+_, _||_, _∙_, _∷_, _≡_, ap, ap₂, arith, Bool, drop, drop-drop, false, false≢true, List, refl, sym, take, true, zero-add, ℕ}
+use Rattle.cond.specs.Pick.{pick}
+use Rattle.forms.specs.Block.{Line, variantAt}
+use Rattle.forms.specs.Places.{Layout, fits, has, isOf, layoutWidth, shape, valueAt, values, width}
 use Rattle.forms.specs.Slots.{Slot}
 
 -- a column
@@ -19,7 +12,7 @@ drop-column j k s =
     let e : j + k ≡ k + j = omega arith in
     ap (λ (n : ℕ). drop n s) e ∙ sym (drop-drop j k s)
 
-shape-from : (ps : Row) (j k : ℕ) (s : List ℕ) → shape ps (j + k) s ≡ shape ps j (drop k s)
+shape-from : (ps : Layout) (j k : ℕ) (s : List ℕ) → shape ps (j + k) s ≡ shape ps j (drop k s)
 unfolding shape
 shape-from [] j k s = refl
 shape-from (p ∷ ps) j k s =
@@ -27,7 +20,7 @@ shape-from (p ∷ ps) j k s =
     ap₂ (λ (a b : Bool). a && b) (ap (λ (x : List ℕ). fits p (take (width p) x)) (drop-column j k s))
     (ap (λ (n : ℕ). shape ps n s) e ∙ shape-from ps (width p + j) k s)
 
-values-from : (ps : Row) (j k : ℕ) (s : List ℕ) (f : Slot) → values ps (j + k) s f ≡ values ps j (drop k s) f
+values-from : (ps : Layout) (j k : ℕ) (s : List ℕ) (f : Slot) → values ps (j + k) s f ≡ values ps j (drop k s) f
 unfolding values
 values-from [] j k s f = refl
 values-from (p ∷ ps) j k s f =
@@ -36,22 +29,22 @@ values-from (p ∷ ps) j k s f =
     (ap (λ (n : ℕ). values ps n s f) e ∙ values-from ps (width p + j) k s f)
 
 module _ (k : ℕ) (s : List ℕ) where
-  pub shape-head : (ps : Row) → shape ps k s ≡ shape ps 0 (drop k s)
+  pub shape-head : (ps : Layout) → shape ps k s ≡ shape ps 0 (drop k s)
   shape-head ps = ap (λ (n : ℕ). shape ps n s) (sym (zero-add k)) ∙ shape-from ps 0 k s
 
-  pub values-head : (ps : Row) (f : Slot) → values ps k s f ≡ values ps 0 (drop k s) f
+  pub values-head : (ps : Layout) (f : Slot) → values ps k s f ≡ values ps 0 (drop k s) f
   values-head ps f = ap (λ (n : ℕ). values ps n s f) (sym (zero-add k)) ∙ values-from ps 0 k s f
 
-  pub layout-head : (l : Line) → layoutAt l k s ≡ layoutAt l 0 (drop k s)
-  unfolding layoutAt
-  layout-head [] = refl
-  layout-head (ps ∷ []) = refl
-  layout-head (ps ∷ qs ∷ l) = ap₂ (λ (t : Bool) (x : Row). pick t ps x) (shape-head ps) (layout-head (qs ∷ l))
+  pub variant-head : (l : Line) → variantAt l k s ≡ variantAt l 0 (drop k s)
+  unfolding variantAt
+  variant-head [] = refl
+  variant-head (ps ∷ []) = refl
+  variant-head (ps ∷ qs ∷ l) = ap₂ (λ (t : Bool) (x : Layout). pick t ps x) (shape-head ps) (variant-head (qs ∷ l))
 
 -- a slot
 
 module _ (s : List ℕ) (f : Slot) where
-  pub values-none : (ps : Row) (k : ℕ) → has ps f ≡ false → values ps k s f ≡ 0
+  pub values-none : (ps : Layout) (k : ℕ) → has ps f ≡ false → values ps k s f ≡ 0
   unfolding has values
   values-none [] k h = refl
   values-none (p ∷ ps) k h = go (isOf f p) h (values-none ps (width p + k))
@@ -61,15 +54,15 @@ module _ (s : List ℕ) (f : Slot) where
       go true q n = absurd (false≢true (sym q))
       go false q n = n q
 
-  pub values-append : (a b : Row) (k : ℕ) → values (a ++ b) k s f ≡ pick (has a f) (values a k s f) (values b (rowWidth a + k) s f)
-  unfolding has values rowWidth
+  pub values-append : (a b : Layout) (k : ℕ) → values (a ++ b) k s f ≡ pick (has a f) (values a k s f) (values b (layoutWidth a + k) s f)
+  unfolding has values layoutWidth
   values-append [] b k = ap (λ (n : ℕ). values b n s f) (sym (zero-add k))
   values-append (p ∷ a) b k =
-      let e : rowWidth a + (width p + k) ≡ width p + rowWidth a + k = omega arith in
+      let e : layoutWidth a + (width p + k) ≡ width p + layoutWidth a + k = omega arith in
       go (isOf f p) (values-append a b (width p + k) ∙ ap (λ (n : ℕ). pick (has a f) (values a (width p + k) s f) (values b n s f)) e)
     where
-      go : (t : Bool) → values (a ++ b) (width p + k) s f ≡ pick (has a f) (values a (width p + k) s f) (values b (width p + rowWidth a + k) s f)
+      go : (t : Bool) → values (a ++ b) (width p + k) s f ≡ pick (has a f) (values a (width p + k) s f) (values b (width p + layoutWidth a + k) s f)
           → pick t (valueAt p (take (width p) (drop k s))) (values (a ++ b) (width p + k) s f)
-          ≡ pick (t || has a f) (pick t (valueAt p (take (width p) (drop k s))) (values a (width p + k) s f)) (values b (width p + rowWidth a + k) s f)
+          ≡ pick (t || has a f) (pick t (valueAt p (take (width p) (drop k s))) (values a (width p + k) s f)) (values b (width p + layoutWidth a + k) s f)
       go true q = refl
       go false q = q

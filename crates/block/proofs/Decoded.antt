@@ -1,19 +1,15 @@
--- What two rows tell one behind the other: each field is told by the row that has its slots.
-use mathlib.Core.Path.{_≡_, refl}
-use mathlib.Core.Bool.{Bool, true, false, _&&_}
-use mathlib.Core.List.{List, [], _∷_, _++_}
-use Prim.Native.Nat.{ℕ}
-use lib.ListN.{getD}
-use Rattle.choice.specs.Pick.{pick}
+-- What two layouts tell one behind the other: each field is told by the layout that has its slots.
+use Rattle.cond.proofs.Kit.{[], _&&_, _++_, _∷_, _≡_, Bool, false, getD, List, refl, true, ℕ}
+use Rattle.cond.specs.Pick.{pick}
 use Rattle.forms.specs.Carries.{carriesOf}
-use Rattle.forms.specs.Fields.Channel.{channelFrom}
-use Rattle.forms.specs.Fields.Date.{DateKind, dateFrom, fullDate, noDate, ordinalDate, yearAndDay}
-use Rattle.forms.specs.Fields.Flag.{FlagKind, byQuality, firstOfTwo, flagFrom, noFlag, ownLetter, secondOfTwo}
-use Rattle.forms.specs.Fields.Fraction.{FractionKind, fractionFrom, noFraction, tenMillionths, thousandths}
-use Rattle.forms.specs.Fields.Offset.{OffsetKind, inHalfHours, inMinutes, isOffset, minutesFrom, noOffset, offsetFrom}
-use Rattle.forms.specs.Fields.Position.{latitudeFrom, longitudeFrom, positionFrom}
-use Rattle.forms.specs.Fields.Sign.{signTied}
-use Rattle.forms.specs.Places.{Row, has, rowWidth, values}
+use Rattle.forms.specs.Fields.Channel.{decodeChannel}
+use Rattle.forms.specs.Fields.Date.{DateKind, decodeDate, fullDate, noDate, ordinalDate, yearAndDay}
+use Rattle.forms.specs.Fields.Flag.{FlagKind, byQuality, firstOfTwo, decodeFlag, noFlag, ownLetter, secondOfTwo}
+use Rattle.forms.specs.Fields.Fraction.{FractionKind, decodeFraction, noFraction, tenMillionths, thousandths}
+use Rattle.forms.specs.Fields.Offset.{OffsetKind, inHalfHours, inMinutes, isOffset, decodeMinutes, noOffset, decodeOffset}
+use Rattle.forms.specs.Fields.Position.{decodeLatitude, decodeLongitude, decodePosition}
+use Rattle.forms.specs.Fields.Sign.{signConsistent}
+use Rattle.forms.specs.Places.{Layout, has, layoutWidth, values}
 use Rattle.forms.specs.Slots.{Slot, Values, change, channel, dsp, fix, halfHour, hour, leap, lsp, minus, minute, month, notice, offsetHours, offsetMinutes, ordinal, quality, second, south, summer, sync, tenMillionth, thousandth, utc, west, year, zone}
 use Rattle.block_lines.specs.Reading.{changeSlots, dateSlots, decoded, fractionSlots, hasAny, leapSlots, offsetSlots, onto, positionSlots, summerSlots, syncSlots, timeSlots, utcSlots}
 use Rattle.block.proofs.Fields.{field, member, only}
@@ -26,32 +22,32 @@ groups =
 
 -- a field asks for its own slots alone
 
-date-only : (k : DateKind) (v : Values) → dateFrom k (only dateSlots 0 v) ≡ dateFrom k v
-unfolding dateFrom member
+date-only : (k : DateKind) (v : Values) → decodeDate k (only dateSlots 0 v) ≡ decodeDate k v
+unfolding decodeDate member
 date-only noDate v = refl
 date-only fullDate v = refl
 date-only yearAndDay v = refl
 date-only ordinalDate v = refl
 
-fraction-only : (k : FractionKind) (v : Values) → fractionFrom k (only fractionSlots 0 v) ≡ fractionFrom k v
-unfolding fractionFrom member
+fraction-only : (k : FractionKind) (v : Values) → decodeFraction k (only fractionSlots 0 v) ≡ decodeFraction k v
+unfolding decodeFraction member
 fraction-only noFraction v = refl
 fraction-only thousandths v = refl
 fraction-only tenMillionths v = refl
 
-channel-only : (t : Bool) (v : Values) → channelFrom t (only (channel ∷ []) 0 v) ≡ channelFrom t v
-unfolding channelFrom member
+channel-only : (t : Bool) (v : Values) → decodeChannel t (only (channel ∷ []) 0 v) ≡ decodeChannel t v
+unfolding decodeChannel member
 channel-only true v = refl
 channel-only false v = refl
 
-minutes-only : (k : OffsetKind) (v : Values) → minutesFrom k (only offsetSlots 0 v) ≡ minutesFrom k v
-unfolding minutesFrom member
+minutes-only : (k : OffsetKind) (v : Values) → decodeMinutes k (only offsetSlots 0 v) ≡ decodeMinutes k v
+unfolding decodeMinutes member
 minutes-only noOffset v = refl
 minutes-only inMinutes v = refl
 minutes-only inHalfHours v = refl
 
-position-only : (t : Bool) (v : Values) → positionFrom t (only positionSlots 0 v) ≡ positionFrom t v
-unfolding positionFrom member
+position-only : (t : Bool) (v : Values) → decodePosition t (only positionSlots 0 v) ≡ decodePosition t v
+unfolding decodePosition member
 position-only true v = refl
 position-only false v = refl
 
@@ -59,41 +55,41 @@ position-only false v = refl
 abbrev offsetKind : (Slot → Bool) → OffsetKind
 offsetKind h = pick (h halfHour) inHalfHours (pick (h offsetHours) inMinutes noOffset)
 
-module _ (ps qs : Row) (s : List ℕ) (a : (n : ℕ) → hasAny qs (getD groups n []) ≡ true → hasAny ps (getD groups n []) ≡ false) where
+module _ (ps qs : Layout) (s : List ℕ) (a : (n : ℕ) → hasAny qs (getD groups n []) ≡ true → hasAny ps (getD groups n []) ≡ false) where
   number : (n : ℕ) (f : Slot) → ((h : Slot → Bool) (v : Values) → only (getD groups n []) 0 v f ≡ v f)
-      → values (ps ++ qs) 0 s f ≡ pick (hasAny qs (getD groups n [])) (values qs (rowWidth ps) s f) (values ps 0 s f)
+      → values (ps ++ qs) 0 s f ≡ pick (hasAny qs (getD groups n [])) (values qs (layoutWidth ps) s f) (values ps 0 s f)
   number n f o = field ps qs s (getD groups n []) (λ h v. v f) o (a n)
 
   flag : (n : ℕ) (k : (Slot → Bool) → FlagKind) (f : Slot) (w : Values → ℕ)
-      → ((h : Slot → Bool) (v : Values) → flagFrom (k (only (getD groups n []) false h)) (only (getD groups n []) 0 v f) (w (only (getD groups n []) 0 v)) ≡ flagFrom (k h) (v f) (w v))
-      → flagFrom (k (has (ps ++ qs))) (values (ps ++ qs) 0 s f) (w (values (ps ++ qs) 0 s))
-      ≡ pick (hasAny qs (getD groups n [])) (flagFrom (k (has qs)) (values qs (rowWidth ps) s f) (w (values qs (rowWidth ps) s)))
-      (flagFrom (k (has ps)) (values ps 0 s f) (w (values ps 0 s)))
-  flag n k f w o = field ps qs s (getD groups n []) (λ h v. flagFrom (k h) (v f) (w v)) o (a n)
+      → ((h : Slot → Bool) (v : Values) → decodeFlag (k (only (getD groups n []) false h)) (only (getD groups n []) 0 v f) (w (only (getD groups n []) 0 v)) ≡ decodeFlag (k h) (v f) (w v))
+      → decodeFlag (k (has (ps ++ qs))) (values (ps ++ qs) 0 s f) (w (values (ps ++ qs) 0 s))
+      ≡ pick (hasAny qs (getD groups n [])) (decodeFlag (k (has qs)) (values qs (layoutWidth ps) s f) (w (values qs (layoutWidth ps) s)))
+      (decodeFlag (k (has ps)) (values ps 0 s f) (w (values ps 0 s)))
+  flag n k f w o = field ps qs s (getD groups n []) (λ h v. decodeFlag (k h) (v f) (w v)) o (a n)
 
-  pub told-append : decoded (ps ++ qs) (values (ps ++ qs) 0 s)
-      ≡ onto qs (decoded qs (values qs (rowWidth ps) s)) (decoded ps (values ps 0 s))
+  pub encode-append : decoded (ps ++ qs) (values (ps ++ qs) 0 s)
+      ≡ onto qs (decoded qs (values qs (layoutWidth ps) s)) (decoded ps (values ps 0 s))
   unfolding decoded onto carriesOf member
-  told-append =
+  encode-append =
       let hour-is = number 0 hour (λ h v. refl) in
       let minute-is = number 0 minute (λ h v. refl) in
       let second-is = number 0 second (λ h v. refl) in
-      let date-is = field ps qs s dateSlots (λ h v. dateFrom (pick (h month) fullDate (pick (h year) yearAndDay (pick (h ordinal) ordinalDate noDate))) v) (λ h v. date-only _ v) (a 1) in
-      let fraction-is = field ps qs s fractionSlots (λ h v. fractionFrom (pick (h thousandth) thousandths (pick (h tenMillionth) tenMillionths noFraction)) v) (λ h v. fraction-only _ v) (a 2) in
-      let channel-is = field ps qs s (channel ∷ []) (λ h v. channelFrom (h channel) v) (λ h v. channel-only _ v) (a 3) in
+      let date-is = field ps qs s dateSlots (λ h v. decodeDate (pick (h month) fullDate (pick (h year) yearAndDay (pick (h ordinal) ordinalDate noDate))) v) (λ h v. date-only _ v) (a 1) in
+      let fraction-is = field ps qs s fractionSlots (λ h v. decodeFraction (pick (h thousandth) thousandths (pick (h tenMillionth) tenMillionths noFraction)) v) (λ h v. fraction-only _ v) (a 2) in
+      let channel-is = field ps qs s (channel ∷ []) (λ h v. decodeChannel (h channel) v) (λ h v. channel-only _ v) (a 3) in
       let sync-is = flag 4 (λ h. pick (h sync) ownLetter (pick (h quality) byQuality noFlag)) sync (λ v. v quality) (λ h v. refl) in
       let fix-is = flag 5 (λ h. pick (h fix) ownLetter noFlag) fix (λ v. 0) (λ h v. refl) in
       let utc-is = flag 6 (λ h. pick (h zone) firstOfTwo (pick (h utc) ownLetter noFlag)) utc (λ v. v zone) (λ h v. refl) in
       let summer-is = flag 7 (λ h. pick (h zone) secondOfTwo (pick (h summer) ownLetter noFlag)) summer (λ v. v zone) (λ h v. refl) in
       let change-is = flag 8 (λ h. pick (h notice) firstOfTwo (pick (h change) ownLetter noFlag)) change (λ v. v notice) (λ h v. refl) in
       let leap-is = flag 9 (λ h. pick (h notice) secondOfTwo (pick (h leap) ownLetter noFlag)) leap (λ v. v notice) (λ h v. refl) in
-      let offset-is = field ps qs s offsetSlots (λ h v. offsetFrom (isOffset (offsetKind h)) (v minus) (minutesFrom (offsetKind h) v)) (λ h v. simp minutes-only) (a 10) in
-      let position-is = field ps qs s positionSlots (λ h v. positionFrom (h south) v) (λ h v. position-only _ v) (a 11) in
+      let offset-is = field ps qs s offsetSlots (λ h v. decodeOffset (isOffset (offsetKind h)) (v minus) (decodeMinutes (offsetKind h) v)) (λ h v. simp minutes-only) (a 10) in
+      let position-is = field ps qs s positionSlots (λ h v. decodePosition (h south) v) (λ h v. position-only _ v) (a 11) in
       let dsp-is = flag 12 (λ h. pick (h dsp) ownLetter noFlag) dsp (λ v. 0) (λ h v. refl) in
       let lsp-is = flag 13 (λ h. pick (h lsp) ownLetter noFlag) lsp (λ v. 0) (λ h v. refl) in
       let minutes-is = number 10 offsetMinutes (λ h v. refl) in
-      let zone-is = field ps qs s offsetSlots (λ h v. signTied (v minus) (minutesFrom (offsetKind h) v)) (λ h v. simp minutes-only) (a 10) in
-      let place-is = field ps qs s positionSlots (λ h v. signTied (v south) (latitudeFrom v) && signTied (v west) (longitudeFrom v)) (λ h v. refl) (a 11) in
+      let zone-is = field ps qs s offsetSlots (λ h v. signConsistent (v minus) (decodeMinutes (offsetKind h) v)) (λ h v. simp minutes-only) (a 10) in
+      let place-is = field ps qs s positionSlots (λ h v. signConsistent (v south) (decodeLatitude v) && signConsistent (v west) (decodeLongitude v)) (λ h v. refl) (a 11) in
       λ i. record {
         known = record {
           hour = hour-is i;

@@ -1,11 +1,7 @@
--- A field that some slots tell: of two rows one behind the other, the one that has a place for these slots tells it.
-use mathlib.Core.Path.{_≡_, refl, sym, _∙_, ap, ap₂, fun-ext}
-use mathlib.Core.Bool.{Bool, true, false, _||_, false≢true, or-false}
-use mathlib.Core.List.{List, [], _∷_, _++_}
-use Prim.Native.Nat.{ℕ}
-use native.Mathlib.Nat.{add-zero}
-use Rattle.choice.specs.Pick.{pick}
-use Rattle.forms.specs.Places.{Row, has, rowWidth, values}
+-- A field that some slots tell: of two layouts one behind the other, the one that has a place for these slots tells it.
+use Rattle.cond.proofs.Kit.{[], _++_, _||_, _∙_, _∷_, _≡_, add-zero, ap, ap₂, Bool, false, false≢true, fun-ext, List, or-false, refl, sym, true, ℕ}
+use Rattle.cond.specs.Pick.{pick}
+use Rattle.forms.specs.Places.{Layout, has, layoutWidth, values}
 use Rattle.forms.specs.Slots.{Slot, Values, same}
 use Rattle.forms.proofs.Append.{has-append}
 use Rattle.forms.proofs.Slots.{same-slot}
@@ -24,7 +20,7 @@ or-none : (a b : Bool) → (a || b) ≡ false → (a ≡ false) × (b ≡ false)
 or-none true b h = absurd (false≢true (sym h))
 or-none false b h = (refl, h)
 
-pub none-of : (ps : Row) (gs : List Slot) (f : Slot) → hasAny ps gs ≡ false → member f gs ≡ true → has ps f ≡ false
+pub none-of : (ps : Layout) (gs : List Slot) (f : Slot) → hasAny ps gs ≡ false → member f gs ≡ true → has ps f ≡ false
 unfolding hasAny member
 none-of ps [] f h m = absurd (false≢true m)
 none-of ps (g ∷ gs) f h m = go (same f g) refl m (none-of ps gs f (or-none (has ps g) (hasAny ps gs) h .1))
@@ -33,8 +29,8 @@ none-of ps (g ∷ gs) f h m = go (same f g) refl m (none-of ps gs f (or-none (ha
     go true e n i = ap (has ps) (same-slot f g e) ∙ or-none (has ps g) (hasAny ps gs) h .0
     go false e n i = i n
 
-module _ (ps qs : Row) (s : List ℕ) (gs : List Slot) where
-  -- where the row behind has none of them
+module _ (ps qs : Layout) (s : List ℕ) (gs : List Slot) where
+  -- where the layout behind has none of them
   module _ (h : hasAny qs gs ≡ false) where
     has-front : only gs false (has (ps ++ qs)) ≡ only gs false (has ps)
     has-front = fun-ext (λ f. go f (member f gs) refl)
@@ -57,7 +53,7 @@ module _ (ps qs : Row) (s : List ℕ) (gs : List Slot) where
             ∙ either f (has ps f) refl
         go f false e = refl
 
-  -- where the row in front has none of them
+  -- where the layout in front has none of them
   module _ (h : hasAny ps gs ≡ false) where
     has-back : only gs false (has (ps ++ qs)) ≡ only gs false (has qs)
     has-back = fun-ext (λ f. go f (member f gs) refl)
@@ -66,19 +62,19 @@ module _ (ps qs : Row) (s : List ℕ) (gs : List Slot) where
         go f true e = has-append ps qs f ∙ simp (none-of ps gs f h e)
         go f false e = refl
 
-    values-back : only gs 0 (values (ps ++ qs) 0 s) ≡ only gs 0 (values qs (rowWidth ps) s)
+    values-back : only gs 0 (values (ps ++ qs) 0 s) ≡ only gs 0 (values qs (layoutWidth ps) s)
     values-back = fun-ext (λ f. go f (member f gs) refl)
       where
-        go : (f : Slot) (t : Bool) → member f gs ≡ t → pick t (values (ps ++ qs) 0 s f) 0 ≡ pick t (values qs (rowWidth ps) s f) 0
+        go : (f : Slot) (t : Bool) → member f gs ≡ t → pick t (values (ps ++ qs) 0 s f) 0 ≡ pick t (values qs (layoutWidth ps) s f) 0
         go f true e = values-append s f ps qs 0 ∙ simp (none-of ps gs f h e, add-zero)
         go f false e = refl
 
   pub field : {A : Type 0} (F : (Slot → Bool) → Values → A) → ((h : Slot → Bool) (v : Values) → F (only gs false h) (only gs 0 v) ≡ F h v)
       → (hasAny qs gs ≡ true → hasAny ps gs ≡ false)
-      → F (has (ps ++ qs)) (values (ps ++ qs) 0 s) ≡ pick (hasAny qs gs) (F (has qs) (values qs (rowWidth ps) s)) (F (has ps) (values ps 0 s))
+      → F (has (ps ++ qs)) (values (ps ++ qs) 0 s) ≡ pick (hasAny qs gs) (F (has qs) (values qs (layoutWidth ps) s)) (F (has ps) (values ps 0 s))
   field F o a = go (hasAny qs gs) refl
     where
       go : (t : Bool) → hasAny qs gs ≡ t
-          → F (has (ps ++ qs)) (values (ps ++ qs) 0 s) ≡ pick t (F (has qs) (values qs (rowWidth ps) s)) (F (has ps) (values ps 0 s))
+          → F (has (ps ++ qs)) (values (ps ++ qs) 0 s) ≡ pick t (F (has qs) (values qs (layoutWidth ps) s)) (F (has ps) (values ps 0 s))
       go true e = sym (o _ _) ∙ ap₂ F (has-back (a e)) (values-back (a e)) ∙ o _ _
       go false e = sym (o _ _) ∙ ap₂ F (has-front e) (values-front e) ∙ o _ _

@@ -1,61 +1,79 @@
 -- The lines of the yes or no fields: one law for the reader and one for the writer, over the key, the slot and the number of the line.
-use mathlib.Core.Path.{_≡_, refl, sym, _∙_, ap, ap₂}
-use mathlib.Core.Bool.{Bool, true, false}
-use mathlib.Core.List.{List, []}
-use Prim.Native.Nat.{ℕ, _+_, _≤_, _<_}
+use Rattle.cond.proofs.Kit.{[], _<_, _∙_, _≡_, _≤_, ap, ap₂, arith, Bool, drop, false, getD, List, refl, sym, take, true, ℕ, _+_, _∷_, _&&_, and-false, eq-eqb, eqb, length}
 use Prim.Native.String.{String}
-use native.Mathlib.Omega.{arith}
-use lib.ListN.{length, getD}
-use Rattle.spelling.specs.Bytes.{text}
+use Rattle.spelling.specs.Bytes.{sameBytes, text}
+use Rattle.spelling.specs.Spelling.{isSpelled, valueOf, word}
+use Rattle.spelling.proofs.Spelling.{sized-value, spelled-parts}
+use Rattle.spelling.proofs.SameBytes.{same-bytes}
+use Rattle.cond.proofs.Tests.{both}
 use Rattle.record.specs.declared.Flag.the-variants as flagIs
 use Rattle.record.specs.declared.Record.{Record}
-use Rattle.forms.specs.Block.{blockLines, flagLine, layoutAt}
+use Rattle.forms.specs.Block.{blockLines, flagLine, variantAt}
 use Rattle.forms.specs.Fields.Flag.{flagChoice}
-use Rattle.forms.specs.Places.{Row, rowWidth, shape, values}
+use Rattle.forms.specs.Places.{Layout, fixed, layoutWidth, part, shape, values}
 use Rattle.forms.specs.Slots.{Slot}
-use Rattle.forms.specs.Told.{told}
-use Rattle.block_lines.specs.Flags.{flagIn, flagRead, flagSlot, flagTold}
-use Rattle.block_lines.specs.Reading.{decoded, lineRead, onto, wordRow}
-use Rattle.block_lines.specs.Stores.{Laid, flagText, wordStored}
+use Rattle.forms.specs.Encode.{encode}
+use Rattle.block_lines.specs.Flags.{flagIn, flagRead, flagSlot, flagDecoded}
+use Rattle.block_lines.specs.Reading.{decoded, lineRead, onto, wordLayout}
+use Rattle.block_lines.specs.Stores.{Laid, flagText}
 use Rattle.block_lines.specs.declared.state.Found.{Found}
 use Rattle.block_lines.specs.declared.state.Found.the-variants as found
 use Rattle.block_lines.specs.declared.state.State.{State}
 use Rattle.block.specs.Lines.{lineOf}
-use Rattle.block.proofs.Rows.{flag-laid, flag-width}
+use Rattle.block.proofs.Layouts.{flag-laid}
 
--- what a layout of the line tells behind lines that told b
-abbrev toldIn : Row → List ℕ → State → State
-toldIn ps s b = onto ps (decoded ps (values ps 0 s)) b
+-- one word alone is spelled where its bytes stand
+spelled-word : (m : ℕ) (bs x : List ℕ) → isSpelled (word m bs) x ≡ sameBytes x bs
+unfolding isSpelled
+spelled-word m bs x = go (sameBytes x bs) refl
+  where
+    go : (t : Bool) → sameBytes x bs ≡ t → (eqb (length x) (length bs) && sameBytes x bs) ≡ sameBytes x bs
+    go true e = simp (eq-eqb _ _ (ap length (same-bytes x bs e)))
+    go false e = simp (e, and-false)
 
--- the layouts of the line tell nothing, no and yes of this slot
-abbrev Tells : String → Slot → List ℕ → State → Type 0
-Tells key f s b =
-    (toldIn (getD (flagLine key f) 0 []) s b ≡ b)
-    × (toldIn (getD (flagLine key f) 1 []) s b ≡ flagTold f flagIs.No b)
-    × (toldIn (getD (flagLine key f) 2 []) s b ≡ flagTold f flagIs.Yes b)
+-- what a variant of the line tells behind lines that told b
+abbrev decodedIn : Layout → List ℕ → State → State
+decodedIn ps s b = onto ps (decoded ps (values ps 0 s)) b
 
-module _ (key : String) (f : Slot) (s : List ℕ) (b : State) (t : Tells key f s b) where
-  no-shape : shape (wordRow (text key) (text "no")) 0 s ≡ shape (getD (flagLine key f) 1 []) 0 s
+-- what a word behind the key tells
+abbrev wordValue : String → ℕ → List ℕ → List ℕ → ℕ
+wordValue key m w s = valueOf (word m w) (take (length w) (drop (length (text key) + 0) s))
+
+-- the variants of the line tell nothing, no and yes of this slot
+abbrev DecodesFlag : String → Slot → List ℕ → State → Type 0
+DecodesFlag key f s b =
+    (decodedIn (getD (flagLine key f) 0 []) s b ≡ b)
+    × (wordValue key 0 (text "no") s ≡ 0 → decodedIn (getD (flagLine key f) 1 []) s b ≡ flagDecoded f flagIs.No b)
+    × (wordValue key 1 (text "yes") s ≡ 1 → decodedIn (getD (flagLine key f) 2 []) s b ≡ flagDecoded f flagIs.Yes b)
+
+module _ (key : String) (f : Slot) (s : List ℕ) (b : State) (t : DecodesFlag key f s b) where
+  no-shape : shape (wordLayout (text key) (text "no")) 0 s ≡ shape (getD (flagLine key f) 1 []) 0 s
   unfolding shape
-  no-shape = refl
+  no-shape = rw spelled-word
 
-  yes-shape : shape (wordRow (text key) (text "yes")) 0 s ≡ shape (getD (flagLine key f) 2 []) 0 s
+  yes-shape : shape (wordLayout (text key) (text "yes")) 0 s ≡ shape (getD (flagLine key f) 2 []) 0 s
   unfolding shape
-  yes-shape = refl
+  yes-shape = rw spelled-word
+
+  word-told : (m : ℕ) (w : List ℕ) → shape (fixed (text key) ∷ part (word m w) f ∷ fixed (10 ∷ []) ∷ []) 0 s ≡ true → wordValue key m w s ≡ m
+  unfolding shape
+  word-told m w h =
+      let x = take (length w) (drop (length (text key) + 0) s) in
+      sized-value x (word m w) (spelled-parts x (word m w) (both (isSpelled (word m w) x) _ (both (sameBytes (take (length (text key)) (drop 0 s)) (text key)) _ h .1) .0) .0)
 
   -- the size by the word
-  sized : (ps : Row) (n : ℕ) (x : State) → n ≡ rowWidth ps → toldIn ps s b ≡ x → found.Line n x ≡ found.Line (rowWidth ps) (toldIn ps s b)
+  sized : (ps : Layout) (n : ℕ) (x : State) → n ≡ layoutWidth ps → decodedIn ps s b ≡ x → found.Line n x ≡ found.Line (layoutWidth ps) (decodedIn ps s b)
   sized ps n x e q = ap₂ found.Line e (sym q)
 
   flag-line : flagRead (text key) f s b ≡ lineRead (flagLine key f) s b
-  unfolding flagRead lineRead layoutAt
+  unfolding flagRead lineRead variantAt
   flag-line = go (shape (getD (flagLine key f) 0 []) 0 s) refl (shape (getD (flagLine key f) 1 []) 0 s) refl (shape (getD (flagLine key f) 2 []) 0 s) refl
     where
       go : (x : Bool) → shape (getD (flagLine key f) 0 []) 0 s ≡ x → (y : Bool) → shape (getD (flagLine key f) 1 []) 0 s ≡ y
           → (z : Bool) → shape (getD (flagLine key f) 2 []) 0 s ≡ z → flagRead (text key) f s b ≡ lineRead (flagLine key f) s b
-      go true p y q z r = simp p (sized (getD (flagLine key f) 0 []) _ _ (unfold rowWidth in omega arith) (t .0))
-      go false p true q z r = simp (p, q, no-shape ∙ q) (sized (getD (flagLine key f) 1 []) _ _ (unfold rowWidth in omega arith) (t .1))
-      go false p false q true r = simp (p, q, r, no-shape ∙ q, yes-shape ∙ r) (sized (getD (flagLine key f) 2 []) _ _ (unfold rowWidth in omega arith) (t .2))
+      go true p y q z r = simp p (sized (getD (flagLine key f) 0 []) _ _ (unfold layoutWidth in omega arith) (t .0))
+      go false p true q z r = simp (p, q, no-shape ∙ q) (sized (getD (flagLine key f) 1 []) _ _ (unfold layoutWidth in omega arith) (t .1 (word-told 0 (text "no") q)))
+      go false p false q true r = simp (p, q, r, no-shape ∙ q, yes-shape ∙ r) (sized (getD (flagLine key f) 2 []) _ _ (unfold layoutWidth in omega arith) (t .2 (word-told 1 (text "yes") r)))
       go false p false q false r = simp (p, q, r, no-shape ∙ q, yes-shape ∙ r)
 
   -- line i, which has number j
@@ -64,16 +82,11 @@ module _ (key : String) (f : Slot) (s : List ℕ) (b : State) (t : Tells key f s
   flag-read i j e g l x h = h ∙ simp (e, g, l) flag-line
 
 module _ (key : String) (f : Slot) (r : Record) (i j : ℕ) (e : i ≡ j) (p : lineOf r j ≡ getD (flagLine key f) (flagChoice (flagIn (flagSlot j) r)) []) where
-  flag-row : lineOf r i ≡ getD (flagLine key f) (flagChoice (flagIn (flagSlot i) r)) []
-  flag-row = ap (lineOf r) e ∙ p ∙ ap (λ (k : ℕ). getD (flagLine key f) (flagChoice (flagIn (flagSlot k) r)) []) (sym e)
+  flag-layout : lineOf r i ≡ getD (flagLine key f) (flagChoice (flagIn (flagSlot i) r)) []
+  flag-layout = ap (lineOf r) e ∙ p ∙ ap (λ (k : ℕ). getD (flagLine key f) (flagChoice (flagIn (flagSlot k) r)) []) (sym e)
 
-  pub flag-room : (m : ℕ) → rowWidth (lineOf r i) ≤ m → length (text key) + length (flagText (flagIn (flagSlot i) r)) < m
-  flag-room m h = omega (arith, ap rowWidth flag-row, flag-width key f (flagIn (flagSlot i) r))
-
-  pub flag-written : (n : ℕ) (o a : List ℕ)
-      → (n ≡ length (text key) + length (flagText (flagIn (flagSlot i) r)) + 1) × (a ≡ wordStored (text key) (flagText (flagIn (flagSlot i) r)) o)
-      → Laid (lineOf r i) (told r) n o a
-  flag-written n o a h = rw flag-row (flag-laid key f (flagIn (flagSlot i) r) (told r) n o a h)
+  pub flag-written : (n : ℕ) (o a : List ℕ) → Laid (wordLayout (text key) (flagText (flagIn (flagSlot i) r))) (encode r) n o a → Laid (lineOf r i) (encode r) n o a
+  flag-written n o a h = rw flag-layout (flag-laid key f (flagIn (flagSlot i) r) (encode r) n o a h)
 
 -- the last line, as the last arm of a match is told
 abbrev NoneOf : ℕ → Type 0

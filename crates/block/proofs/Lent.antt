@@ -1,14 +1,12 @@
--- A row stored into the part of a buffer from a column onward is the row stored at that column.
-use mathlib.Core.Path.{_≡_, refl, sym, _∙_, ap}
-use mathlib.Core.List.{List, [], _∷_, _++_, append-nil}
-use Prim.Native.Nat.{ℕ, suc, _+_, _-_, _≤_}
-use native.Mathlib.Omega.{arith}
-use lib.ListN.{length, take, drop, set, length-drop, take-append-drop}
-use lib.Seq.{drop-length, length-sets, length-take-le, sets, take-all}
-use Rattle.forms.specs.Places.{Place, Row, fixed, part, placed, width}
+-- A layout stored into the part of a buffer from a column onward is the layout stored at that column.
+use Rattle.cond.proofs.Kit.{[], _++_, _+_, _-_, _∙_, _∷_, _≡_, _≤_, ap, append-nil, arith, Bool, drop, drop-length, false, leb, leb-false, leb-true, length, length-append, length-drop}
+use Rattle.cond.proofs.Kit.{length-take-le, List, refl, set, sets, suc, sym, take, take-all, take-append-drop, true, ℕ}
+use Rattle.forms.specs.Places.{Place, Layout, fixed, part, placed, width}
 use Rattle.forms.specs.Slots.{Slot, Values}
 use Rattle.spelling.specs.Spelling.{spell}
-use Rattle.layout.specs.Stores.{stores}
+use Rattle.spelling.specs.Stored.{stored}
+use Rattle.spelling.proofs.Stored.{stored-in, stored-length, stored-out}
+use Rattle.places.specs.Stores.{stores}
 
 set-behind : (a b : List ℕ) (j x : ℕ) → set (a ++ b) (j + length a) x ≡ a ++ set b j x
 set-behind [] b j x =
@@ -25,30 +23,41 @@ sets-behind a b j (x ∷ xs) =
     ap (λ (l : List ℕ). sets l (suc (j + length a)) xs) (set-behind a b j x) ∙ ap (λ (n : ℕ). sets (a ++ set b j x) n xs) e
     ∙ sets-behind a (set b j x) (suc j) xs
 
-stores-behind : (ps : Row) (v : Values) (a b : List ℕ) (j : ℕ) → stores ps (j + length a) v (a ++ b) ≡ a ++ stores ps j v b
+stored-behind : (a b : List ℕ) (j : ℕ) (xs : List ℕ) → stored (a ++ b) (j + length a) xs ≡ a ++ stored b j xs
+stored-behind a b j xs = go (leb (j + length xs) (length b)) refl
+  where
+    go : (t : Bool) → leb (j + length xs) (length b) ≡ t → stored (a ++ b) (j + length a) xs ≡ a ++ stored b j xs
+    go true e =
+        let h = leb-true (j + length xs) (length b) e in
+        stored-in (a ++ b) (j + length a) xs (omega (arith, length-append a b)) ∙ sets-behind a b j xs ∙ ap (λ (l : List ℕ). a ++ l) (sym (stored-in b j xs h))
+    go false e =
+        let h = leb-false (j + length xs) (length b) e in
+        stored-out (a ++ b) (j + length a) xs (omega (arith, length-append a b)) ∙ ap (λ (l : List ℕ). a ++ l) (sym (stored-out b j xs h))
+
+stores-behind : (ps : Layout) (v : Values) (a b : List ℕ) (j : ℕ) → stores ps (j + length a) v (a ++ b) ≡ a ++ stores ps j v b
 unfolding stores
 stores-behind [] v a b j = refl
 stores-behind (p ∷ ps) v a b j =
     let e : width p + (j + length a) ≡ width p + j + length a = omega arith in
-    ap (λ (l : List ℕ). stores ps (width p + (j + length a)) v l) (sets-behind a b j (placed p v))
-    ∙ ap (λ (n : ℕ). stores ps n v (a ++ sets b j (placed p v))) e
-    ∙ stores-behind ps v a (sets b j (placed p v)) (width p + j)
+    ap (λ (l : List ℕ). stores ps (width p + (j + length a)) v l) (stored-behind a b j (placed p v))
+    ∙ ap (λ (n : ℕ). stores ps n v (a ++ stored b j (placed p v))) e
+    ∙ stores-behind ps v a (stored b j (placed p v)) (width p + j)
 
-pub stores-length : (ps : Row) (k : ℕ) (v : Values) (o : List ℕ) → length (stores ps k v o) ≡ length o
+pub stores-length : (ps : Layout) (k : ℕ) (v : Values) (o : List ℕ) → length (stores ps k v o) ≡ length o
 unfolding stores
 stores-length [] k v o = refl
-stores-length (p ∷ ps) k v o = stores-length ps (width p + k) v (sets o k (placed p v)) ∙ length-sets o k (placed p v)
+stores-length (p ∷ ps) k v o = stores-length ps (width p + k) v (stored o k (placed p v)) ∙ stored-length o k (placed p v)
 
--- only what the row's slots tell counts
+-- only what the layout's slots tell counts
 place-same : (p : Place) (v w : Values) → ((f : Slot) → v f ≡ w f) → placed p v ≡ placed p w
 place-same (fixed bs) v w h = refl
 place-same (part c f) v w h = ap (spell c) (h f)
 
-pub stores-same : (ps : Row) (k : ℕ) (v w : Values) (o : List ℕ) → ((f : Slot) → v f ≡ w f) → stores ps k v o ≡ stores ps k w o
+pub stores-same : (ps : Layout) (k : ℕ) (v w : Values) (o : List ℕ) → ((f : Slot) → v f ≡ w f) → stores ps k v o ≡ stores ps k w o
 unfolding stores
 stores-same [] k v w o h = refl
 stores-same (p ∷ ps) k v w o h =
-    ap (λ (x : List ℕ). stores ps (width p + k) v (sets o k x)) (place-same p v w h) ∙ stores-same ps (width p + k) v w (sets o k (placed p w)) h
+    ap (λ (x : List ℕ). stores ps (width p + k) v (stored o k x)) (place-same p v w h) ∙ stores-same ps (width p + k) v w (stored o k (placed p w)) h
 
 -- what is lent from a column onward
 
@@ -59,7 +68,7 @@ lent-whole x m = take-all (length x - m) (drop m x) (omega (arith, length-drop m
 pub lent-length : (x : List ℕ) (m : ℕ) → length (take (length x - m) (drop m x)) ≡ length x - m
 lent-length x m = length-take-le (length x - m) (drop m x) (omega (arith, length-drop m x))
 
-pub lent : (ps : Row) (v : Values) (x y : List ℕ) (at : ℕ) → at ≤ length x → y ≡ stores ps 0 v (take (length x - at) (drop at x))
+pub lent : (ps : Layout) (v : Values) (x y : List ℕ) (at : ℕ) → at ≤ length x → y ≡ stores ps 0 v (take (length x - at) (drop at x))
     → take at x ++ (y ++ drop (length x - at) (drop at x)) ≡ stores ps at v x
 lent ps v x y at h e =
     let l : length x - at ≡ length (drop at x) = sym (length-drop at x) in

@@ -1,6 +1,6 @@
 pub mod Lent
 pub mod Chosen
-pub mod Rows
+pub mod Layouts
 pub mod Progress
 pub mod Columns
 pub mod Fields

@@ -1,22 +1,17 @@
 -- Lines of which no two tell the same field: what the lines so far tell, the lines behind them do not.
-use mathlib.Core.Path.{_≡_, refl, sym, _∙_, ap}
-use mathlib.Core.Bool.{Bool, true, false, not, _&&_, _||_, false≢true}
-use mathlib.Core.List.{List, [], _∷_, _++_}
-use Prim.Native.Nat.{ℕ, zero, suc}
-use borrow.Author.Tests.{not-true}
-use lib.ListN.{getD}
-use Rattle.choice.proofs.Tests.{both}
-use Rattle.forms.specs.Block.{Line, layoutAt}
-use Rattle.forms.specs.Places.{Row, has}
+use Rattle.cond.proofs.Kit.{[], _&&_, _++_, _||_, _∙_, _∷_, _≡_, ap, Bool, false, false≢true, getD, List, not, not-true, refl, suc, sym, true, zero, ℕ}
+use Rattle.cond.proofs.Tests.{both}
+use Rattle.forms.specs.Block.{Line, variantAt}
+use Rattle.forms.specs.Places.{Layout, has}
 use Rattle.forms.specs.Slots.{Slot}
 use Rattle.forms.proofs.Append.{has-append}
-use Rattle.forms.proofs.Layouts.{choice-at, choiceAt, layout-at, nonempty}
-use Rattle.forms.proofs.Lines.{everyLayout, everyLine, layout-passes}
+use Rattle.forms.proofs.Variants.{choice-at, choiceAt, variant-at, nonempty}
+use Rattle.forms.proofs.Lines.{everyVariant, everyLine, variant-passes}
 use Rattle.block_lines.specs.Reading.{hasAny}
 
--- what every layout of a line passes, the one found passes
-pub found-passes : (t : Row → Bool) (l : Line) (k : ℕ) (s : List ℕ) → nonempty l ≡ true → everyLayout t l ≡ true → t (layoutAt l k s) ≡ true
-found-passes t l k s n h = rw (layout-at l k s) (layout-passes t l (choiceAt l k s) (choice-at l k s n) h)
+-- what every variant of a line passes, the one found passes
+pub found-passes : (t : Layout → Bool) (l : Line) (k : ℕ) (s : List ℕ) → nonempty l ≡ true → everyVariant t l ≡ true → t (variantAt l k s) ≡ true
+found-passes t l k s n h = rw (variant-at l k s) (variant-passes t l (choiceAt l k s) (choice-at l k s n) h)
 
 or-middle : (a b c d : Bool) → ((a || b) || (c || d)) ≡ ((a || c) || (b || d))
 or-middle true b c d = refl
@@ -24,24 +19,24 @@ or-middle false true true d = refl
 or-middle false true false d = refl
 or-middle false false c d = refl
 
-pub any-append : (ps qs : Row) (gs : List Slot) → hasAny (ps ++ qs) gs ≡ (hasAny ps gs || hasAny qs gs)
+pub any-append : (ps qs : Layout) (gs : List Slot) → hasAny (ps ++ qs) gs ≡ (hasAny ps gs || hasAny qs gs)
 unfolding hasAny
 any-append ps qs [] = refl
 any-append ps qs (g ∷ gs) = simp (has-append ps qs g, any-append ps qs gs) (or-middle (has ps g) (has qs g) (hasAny ps gs) (hasAny qs gs))
 
-abbrev pub without : List Slot → Row → Bool
+abbrev pub without : List Slot → Layout → Bool
 without gs ps = not (hasAny ps gs)
 
 abbrev noneIn : List Slot → List Line → Bool
-noneIn gs ls = everyLine (everyLayout (without gs)) ls
+noneIn gs ls = everyLine (everyVariant (without gs)) ls
 
 -- no two lines tell the field
-unfoldable pub toldOnce : List Line → List Slot → Bool
-toldOnce [] gs = true
-toldOnce (l ∷ ls) gs = (everyLayout (without gs) l || noneIn gs ls) && toldOnce ls gs
+unfoldable pub placedOnce : List Line → List Slot → Bool
+placedOnce [] gs = true
+placedOnce (l ∷ ls) gs = (everyVariant (without gs) l || noneIn gs ls) && placedOnce ls gs
 
--- the row or the lines behind it do not tell the field
-abbrev pub clear : Row → List Line → List Slot → Bool
+-- the layout or the lines behind it do not tell the field
+abbrev pub clear : Layout → List Line → List Slot → Bool
 clear ps ls gs = not (hasAny ps gs) || noneIn gs ls
 
 here : (p h a b : Bool) → (a ≡ true → h ≡ false) → (not p || (a && b)) ≡ true → h ≡ true → p ≡ false
@@ -56,24 +51,24 @@ next false true true b q c o = absurd (false≢true (sym (q refl)))
 next false true false b q c o = o
 next false false a b q c o = refl
 
-module _ (ps : Row) (l : Line) (ls : List Line) (k : ℕ) (s : List ℕ) (f : nonempty l ≡ true) (gs : List Slot) (c : clear ps (l ∷ ls) gs ≡ true) where
-  found-without : everyLayout (without gs) l ≡ true → hasAny (layoutAt l k s) gs ≡ false
+module _ (ps : Layout) (l : Line) (ls : List Line) (k : ℕ) (s : List ℕ) (f : nonempty l ≡ true) (gs : List Slot) (c : clear ps (l ∷ ls) gs ≡ true) where
+  found-without : everyVariant (without gs) l ≡ true → hasAny (variantAt l k s) gs ≡ false
   found-without h = not-true _ (found-passes (without gs) l k s f h)
 
-  pub apart-here : hasAny (layoutAt l k s) gs ≡ true → hasAny ps gs ≡ false
+  pub apart-here : hasAny (variantAt l k s) gs ≡ true → hasAny ps gs ≡ false
   unfolding everyLine
-  apart-here h = here (hasAny ps gs) (hasAny (layoutAt l k s) gs) (everyLayout (without gs) l) (noneIn gs ls) found-without c h
+  apart-here h = here (hasAny ps gs) (hasAny (variantAt l k s) gs) (everyVariant (without gs) l) (noneIn gs ls) found-without c h
 
-  pub clear-next : toldOnce (l ∷ ls) gs ≡ true → clear (ps ++ layoutAt l k s) ls gs ≡ true
-  unfolding everyLine toldOnce
+  pub clear-next : placedOnce (l ∷ ls) gs ≡ true → clear (ps ++ variantAt l k s) ls gs ≡ true
+  unfolding everyLine placedOnce
   clear-next o =
-      ap (λ (t : Bool). not t || noneIn gs ls) (any-append ps (layoutAt l k s) gs)
-      ∙ next (hasAny ps gs) (hasAny (layoutAt l k s) gs) (everyLayout (without gs) l) (noneIn gs ls) found-without c
-      (both (everyLayout (without gs) l || noneIn gs ls) (toldOnce ls gs) o .0)
+      ap (λ (t : Bool). not t || noneIn gs ls) (any-append ps (variantAt l k s) gs)
+      ∙ next (hasAny ps gs) (hasAny (variantAt l k s) gs) (everyVariant (without gs) l) (noneIn gs ls) found-without c
+      (both (everyVariant (without gs) l || noneIn gs ls) (placedOnce ls gs) o .0)
 
-pub rest-once : (l : Line) (ls : List Line) (gs : List Slot) → toldOnce (l ∷ ls) gs ≡ true → toldOnce ls gs ≡ true
-unfolding toldOnce
-rest-once l ls gs o = both (everyLayout (without gs) l || noneIn gs ls) (toldOnce ls gs) o .1
+pub rest-once : (l : Line) (ls : List Line) (gs : List Slot) → placedOnce (l ∷ ls) gs ≡ true → placedOnce ls gs ≡ true
+unfolding placedOnce
+rest-once l ls gs o = both (everyVariant (without gs) l || noneIn gs ls) (placedOnce ls gs) o .1
 
 -- each field is told by one line at most
 unfoldable pub everyGroup : (List Slot → Bool) → List (List Slot) → Bool

@@ -1,4 +1,4 @@
--- How many bytes the lines of a block have.
+-- Inner: how many bytes the lines of a block have.
 use Prim.Native.Nat.{ℕ}
 use Rattle.record.specs.declared.Date.{Date}
 use Rattle.record.specs.declared.Date.the-variants as dateIs

@@ -1,11 +1,10 @@
 // The lines by their numbers: each has its own reader and its own writer.
 ghost use mathlib.Core.Path.{_≡_};
 ghost use mathlib.Core.List.{[]};
-ghost use Prim.Native.Nat.{_≤_, _<_};
-ghost use lib.ListN.{length, getD};
+ghost use Prim.Native.Nat.{_<_};
+ghost use lib.ListN.{getD};
 ghost use Rattle.forms.specs.Block.{blockLines};
-ghost use Rattle.forms.specs.Places.{rowWidth};
-ghost use Rattle.forms.specs.Told.{told};
+ghost use Rattle.forms.specs.Encode.{encode};
 ghost use Rattle.block_lines.specs.Reading.{lineRead};
 ghost use Rattle.block_lines.specs.Stores.{Laid};
 ghost use Rattle.block.specs.Lines.{lineOf};
@@ -28,7 +27,7 @@ use block_lines::time::write_time;
 use record::Record;
 
 // Line i at the head of a lent part, behind lines that told `before`.
-pub fn read_line(i: usize, s: &[u8], before: State) -> Found
+pub(crate) fn read_line(i: usize, s: &[u8], before: State) -> Found
     requires { ⌜ i < 14 ⌝ }
     ensures { λ r. ⌜ r ≡ lineRead (getD blockLines i []) (now (s .entry)) before ⌝ }
 {
@@ -51,9 +50,9 @@ pub fn read_line(i: usize, s: &[u8], before: State) -> Found
 }
 
 // Line i of a record's block, stored at the head of a lent part.
-pub fn write_line(i: usize, r: Record, out: &mut [u8]) -> usize
-    requires { ⌜ (i < 14) × (rowWidth (lineOf r i) ≤ length (now out)) ⌝ }
-    ensures { λ n. ⌜ Laid (lineOf r i) (told r) n (now (out .entry)) (now (out .exit)) ⌝ }
+pub(crate) fn write_line(i: usize, r: Record, out: &mut [u8]) -> usize
+    requires { ⌜ i < 14 ⌝ }
+    ensures { λ n. ⌜ Laid (lineOf r i) (encode r) n (now (out .entry)) (now (out .exit)) ⌝ }
 {
     match i {
         0 => write_date(r, out),

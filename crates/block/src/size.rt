@@ -68,7 +68,7 @@ fn position_size(position: Position) -> usize
 }
 
 // All keys, the time, the channel and each LF are there in every block.
-pub fn size(r: Record) -> usize
+pub(crate) fn size(r: Record) -> usize
     ensures { λ n. ⌜ n ≡ blockOf firstEdition r .size ⌝ }
 {
     let date = r.date;

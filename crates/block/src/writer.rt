@@ -4,8 +4,8 @@ ghost use mathlib.Core.Path.{_≡_};
 ghost use lib.ListN.{length};
 ghost use Rattle.forms.specs.Block.{blockOf, firstEdition};
 ghost use Rattle.forms.specs.Form.{Wrote};
-ghost use Rattle.forms.specs.Told.{told};
-ghost use Rattle.layout.specs.Stores.{stores};
+ghost use Rattle.forms.specs.Encode.{encode};
+ghost use Rattle.places.specs.Stores.{stores};
 use crate::line::write_line;
 use crate::size::size;
 use record::Record;
@@ -14,7 +14,7 @@ use record::refusal::Refusal;
 
 fn write_lines(r: Record, out: &mut [u8])
     requires { ⌜ blockOf firstEdition r .size ≤ length (now out) ⌝ }
-    ensures { λ _. ⌜ now (out .exit) ≡ stores (blockOf firstEdition r .row) 0 (told r) (now (out .entry)) ⌝ }
+    ensures { λ _. ⌜ now (out .exit) ≡ stores (blockOf firstEdition r .layout) 0 (encode r) (now (out .entry)) ⌝ }
 {
     let mut at = 0;
     let mut i = 0;

@@ -1,17 +1,13 @@
--- A row that ends in fixed bytes fits no bytes that are shorter than it.
-use mathlib.Core.Path.{_≡_, refl, sym, _∙_, ap}
-use mathlib.Core.Bool.{Bool, true, false, _&&_, and-true, false≢true}
-use mathlib.Core.List.{List, [], _∷_}
-use Prim.Native.Nat.{ℕ, suc, _+_, _≤_, _<_, min}
-use native.Mathlib.Nat.{min-le-right}
-use native.Mathlib.Omega.{arith}
-use lib.ListN.{length, take, drop, length-drop, length-take}
-use Rattle.choice.proofs.Tests.{both}
-use Rattle.spelling.specs.Bytes.{areDigits, sameBytes}
+-- A layout that ends in fixed bytes fits no bytes that are shorter than it.
+use Rattle.cond.proofs.Kit.{[], _&&_, _+_, _∙_, _∷_, _≡_, _≤_, and-true, ap, arith, Bool, drop, false, false≢true, length, length-drop, length-take}
+use Rattle.cond.proofs.Kit.{List, min, min-le-right, suc, sym, take, true, ℕ}
+use Rattle.cond.proofs.Tests.{both}
+use Rattle.spelling.specs.Bytes.{sameBytes}
+use Rattle.spelling.specs.Spelling.{digits, isSpelled}
 use Rattle.spelling.proofs.SameBytes.{same-bytes}
-use Rattle.forms.specs.Places.{Place, Row, fits, fixed, part, rowWidth, shape, width}
+use Rattle.forms.specs.Places.{Place, Layout, fits, fixed, part, layoutWidth, shape, width}
 use Rattle.forms.specs.Slots.{Slot}
-use Rattle.block_lines.specs.Reading.{numberRow, wordRow}
+use Rattle.block_lines.specs.Reading.{numberLayout, wordLayout}
 
 -- fixed bytes, at least one
 abbrev pub isText : Place → Bool
@@ -19,7 +15,7 @@ isText (fixed []) = false
 isText (fixed (b ∷ bs)) = true
 isText (part c f) = false
 
-unfoldable pub isClosed : Row → Bool
+unfoldable pub isClosed : Layout → Bool
 isClosed [] = false
 isClosed (p ∷ []) = isText p
 isClosed (p ∷ q ∷ ps) = isClosed (q ∷ ps)
@@ -32,28 +28,21 @@ text-reach (fixed (b ∷ bs)) k s c h =
     omega (arith, length-take (suc (length bs)) (drop k s), length-drop k s)
 text-reach (part c f) k s d h = absurd (false≢true d)
 
-pub in-reach : (ps : Row) (k : ℕ) (s : List ℕ) → isClosed ps ≡ true → shape ps k s ≡ true → rowWidth ps + k ≤ length s
-unfolding isClosed shape rowWidth
+pub in-reach : (ps : Layout) (k : ℕ) (s : List ℕ) → isClosed ps ≡ true → shape ps k s ≡ true → layoutWidth ps + k ≤ length s
+unfolding isClosed shape layoutWidth
 in-reach [] k s c h = absurd (false≢true c)
 in-reach (p ∷ []) k s c h = omega (arith, text-reach p k s c (both (fits p (take (width p) (drop k s))) true h .0))
 in-reach (p ∷ q ∷ ps) k s c h =
     omega (arith, in-reach (q ∷ ps) (width p + k) s c (both (fits p (take (width p) (drop k s))) (shape (q ∷ ps) (width p + k) s) h .1))
 
 -- a test that held says that the bytes reach
-pub fits-within : (ps : Row) (s : List ℕ) → isClosed ps ≡ true → (t : Bool) → t ≡ shape ps 0 s → t ≡ true → {k : ℕ} → k ≤ rowWidth ps → k ≤ length s
+pub fits-within : (ps : Layout) (s : List ℕ) → isClosed ps ≡ true → (t : Bool) → t ≡ shape ps 0 s → t ≡ true → {k : ℕ} → k ≤ layoutWidth ps → k ≤ length s
 fits-within ps s c t e h l = omega (arith, in-reach ps 0 s c (sym e ∙ h))
 
-pub too-short : (ps : Row) (s : List ℕ) → isClosed ps ≡ true → length s < rowWidth ps → false ≡ shape ps 0 s
-too-short ps s c h = go (shape ps 0 s) refl
-  where
-    go : (t : Bool) → shape ps 0 s ≡ t → false ≡ t
-    go true e = absurd (omega (arith, in-reach ps 0 s c e))
-    go false e = refl
-
--- the rows of a key and one value
+-- the layouts of a key and one value
 
 module _ (key s : List ℕ) where
-  pub word-shape : (word : List ℕ) → shape (wordRow key word) 0 s
+  pub word-shape : (word : List ℕ) → shape (wordLayout key word) 0 s
       ≡ (sameBytes (take (length key) (drop 0 s)) key && (sameBytes (take (length word) (drop (length key) s)) word && sameBytes (take 1 (drop (length key + length word) s)) (10 ∷ [])))
   unfolding shape
   word-shape word =
@@ -61,16 +50,10 @@ module _ (key s : List ℕ) where
       let e : length key + 0 ≡ length key = omega arith in
       rw (q, e, and-true)
 
-  pub number-shape : (w : ℕ) (f : Slot) → shape (numberRow key w f) 0 s
-      ≡ (sameBytes (take (length key) (drop 0 s)) key && (areDigits (take w (drop (length key) s)) && sameBytes (take 1 (drop (length key + w) s)) (10 ∷ [])))
+  pub number-shape : (w : ℕ) (f : Slot) → shape (numberLayout key w f) 0 s
+      ≡ (sameBytes (take (length key) (drop 0 s)) key && (isSpelled (digits w) (take w (drop (length key) s)) && sameBytes (take 1 (drop (length key + w) s)) (10 ∷ [])))
   unfolding shape
   number-shape w f =
       let q : w + (length key + 0) ≡ length key + w = omega arith in
       let e : length key + 0 ≡ length key = omega arith in
       rw (q, e, and-true)
-
-  pub word-closed : (word : List ℕ) → length s ≤ length key + length word → false ≡ shape (wordRow key word) 0 s
-  word-closed word h = too-short (wordRow key word) s (unfold isClosed in refl) (unfold rowWidth in omega arith)
-
-  pub number-closed : (w : ℕ) (f : Slot) → length s ≤ length key + w → false ≡ shape (numberRow key w f) 0 s
-  number-closed w f h = too-short (numberRow key w f) s (unfold isClosed in refl) (unfold rowWidth in omega arith)

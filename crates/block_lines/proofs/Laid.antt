@@ -1,49 +1,43 @@
--- The lines with signs: what is stored by the sign and the number of a record is its line.
-use mathlib.Core.Path.{_≡_, refl, _∙_, ap}
-use mathlib.Core.Bool.{Bool}
-use mathlib.Core.List.{List, []}
-use Prim.Native.Nat.{ℕ}
-use lib.ListN.{getD}
-use Rattle.choice.specs.Pick.{oneIf}
+-- The stores of a line's key, value and LF are those of its layout, and the sign that a record tells is 1 where its number is negative.
+use Rattle.cond.proofs.Kit.{[], _+_, _∷_, _≡_, arith, length, List, refl, ℕ}
+use Rattle.cond.specs.Pick.{oneIf}
+use Rattle.spelling.specs.Bytes.{decimal}
+use Rattle.spelling.specs.Stored.{stored}
 use Rattle.record.specs.declared.Offset.{Offset}
 use Rattle.record.specs.declared.Offset.the-variants as offsetIs
 use Rattle.record.specs.declared.Position.{Position}
 use Rattle.record.specs.declared.Position.the-variants as positionIs
-use Rattle.record.specs.declared.Record.{Record}
-use Rattle.forms.specs.Block.{offsetLine, positionLine}
-use Rattle.forms.specs.Fields.Offset.{minusTold, minutesTold, offsetChoice}
-use Rattle.forms.specs.Fields.Position.{altitudeTold, latitudeTold, longitudeTold, positionChoice, southTold, westTold}
-use Rattle.forms.specs.Places.{rowWidth}
-use Rattle.forms.specs.Told.{told}
+use Rattle.forms.specs.Fields.Offset.{encodeMinus}
+use Rattle.forms.specs.Fields.Position.{encodeSouth, encodeWest}
+use Rattle.forms.specs.Slots.{Slot, Values}
 use Rattle.fields.specs.Signs.{isMinus, isSouth, isWest}
-use Rattle.layout.specs.Stores.{stores}
-use Rattle.block_lines.specs.Stores.{Laid, offsetStored, positionStored}
+use Rattle.places.specs.Stores.{stores}
+use Rattle.block_lines.specs.Reading.{numberLayout, wordLayout}
 
-minus-told : (x : Offset) → oneIf (isMinus x) ≡ minusTold x
-minus-told offsetIs.Absent = refl
-minus-told (offsetIs.Minutes z) = refl
+module _ (key o : List ℕ) (v : Values) where
+  pub word-stores : (word : List ℕ) → stores (wordLayout key word) 0 v o ≡ stored (stored (stored o 0 key) (length key) word) (length key + length word) (10 ∷ [])
+  unfolding stores
+  word-stores word =
+      let q : length word + (length key + 0) ≡ length key + length word = omega arith in
+      let e : length key + 0 ≡ length key = omega arith in
+      rw (q, e)
 
-south-told : (x : Position) → oneIf (isSouth x) ≡ southTold x
-south-told positionIs.Absent = refl
-south-told (positionIs.Degrees lat lon alt) = refl
+  pub number-stores : (w : ℕ) (f : Slot) (n : ℕ) → v f ≡ n
+      → stores (numberLayout key w f) 0 v o ≡ stored (stored (stored o 0 key) (length key) (decimal w n)) (length key + w) (10 ∷ [])
+  unfolding stores
+  number-stores w f n h =
+      let q : w + (length key + 0) ≡ length key + w = omega arith in
+      let e : length key + 0 ≡ length key = omega arith in
+      rw (h, q, e)
 
-west-told : (x : Position) → oneIf (isWest x) ≡ westTold x
-west-told positionIs.Absent = refl
-west-told (positionIs.Degrees lat lon alt) = refl
+pub minus-encoded : (x : Offset) → encodeMinus x ≡ oneIf (isMinus x)
+minus-encoded offsetIs.Absent = refl
+minus-encoded (offsetIs.Minutes z) = refl
 
-module _ (r : Record) (n : ℕ) (o a : List ℕ) where
-  pub offset-laid : offsetChoice (r .offset) ≡ 1 → (t : Bool) (m : ℕ) → t ≡ isMinus (r .offset) → m ≡ minutesTold (r .offset)
-      → (n ≡ 14) × (a ≡ offsetStored t m o) → Laid (getD offsetLine (offsetChoice (r .offset)) []) (told r) n o a
-  unfolding stores rowWidth
-  offset-laid k t m e1 e2 h =
-      let s : oneIf t ≡ minusTold (r .offset) = ap oneIf e1 ∙ minus-told (r .offset) in
-      rw k (h .0, h .1 ∙ rw (s, e2))
+pub south-encoded : (x : Position) → encodeSouth x ≡ oneIf (isSouth x)
+south-encoded positionIs.Absent = refl
+south-encoded (positionIs.Degrees lat lon alt) = refl
 
-  pub position-laid : positionChoice (r .position) ≡ 1 → (s w : Bool) (lat lon alt : ℕ) → s ≡ isSouth (r .position) → lat ≡ latitudeTold (r .position)
-      → w ≡ isWest (r .position) → lon ≡ longitudeTold (r .position) → alt ≡ altitudeTold (r .position)
-      → (n ≡ 34) × (a ≡ positionStored s lat w lon alt o) → Laid (getD positionLine (positionChoice (r .position)) []) (told r) n o a
-  unfolding stores rowWidth
-  position-laid k s w lat lon alt e1 e2 e3 e4 e5 h =
-      let x : oneIf s ≡ southTold (r .position) = ap oneIf e1 ∙ south-told (r .position) in
-      let y : oneIf w ≡ westTold (r .position) = ap oneIf e3 ∙ west-told (r .position) in
-      rw k (h .0, h .1 ∙ rw (x, e2, y, e4, e5))
+pub west-encoded : (x : Position) → encodeWest x ≡ oneIf (isWest x)
+west-encoded positionIs.Absent = refl
+west-encoded (positionIs.Degrees lat lon alt) = refl

@@ -1,4 +1,3 @@
 pub mod Closed
-pub mod Signs
 pub mod Laid
 pub mod Numbers

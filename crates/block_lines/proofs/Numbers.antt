@@ -1,7 +1,5 @@
 -- The lines of the yes or no fields by their numbers.
-use mathlib.Core.Path.{_≡_}
-use Prim.Native.Nat.{ℕ}
-use borrow.Author.Tests.{ne-eqb}
+use Rattle.cond.proofs.Kit.{_≡_, ne-eqb, ℕ}
 use Rattle.forms.specs.Slots.{lsp}
 use Rattle.block_lines.specs.Flags.{flagSlot}
 

@@ -1,16 +1,16 @@
--- The lines of the yes or no fields, by their numbers.
+-- Inner: the lines of the yes or no fields, by their numbers.
 use mathlib.Core.List.{List}
 use Prim.Native.Nat.{ℕ, _+_}
 use lib.Dec.{eqb}
 use lib.ListN.{length}
-use Rattle.choice.specs.Pick.{pick}
+use Rattle.cond.specs.Pick.{pick}
 use Rattle.spelling.specs.Bytes.{text}
 use Rattle.record.specs.declared.Flag.{Flag}
 use Rattle.record.specs.declared.Flag.the-variants as flagIs
 use Rattle.record.specs.declared.Record.{Record}
 use Rattle.forms.specs.Places.{shape}
 use Rattle.forms.specs.Slots.{Slot, change, dsp, fix, leap, lsp, same, summer, sync, utc}
-use Rattle.block_lines.specs.Reading.{wordRow}
+use Rattle.block_lines.specs.Reading.{wordLayout}
 use Rattle.block_lines.specs.declared.state.Found.{Found}
 use Rattle.block_lines.specs.declared.state.Found.the-variants as found
 use Rattle.block_lines.specs.declared.state.State.{State}
@@ -52,12 +52,12 @@ withFlag f x r =
     }
 
 -- what is told so far, and this field
-abbrev pub flagTold : Slot → Flag → State → State
-flagTold f x b = record { known = withFlag f x (b .known); minutes = b .minutes; zone = b .zone; place = b .place }
+abbrev pub flagDecoded : Slot → Flag → State → State
+flagDecoded f x b = record { known = withFlag f x (b .known); minutes = b .minutes; zone = b .zone; place = b .place }
 
 -- "(`yes`/`no`)", "`-` is absent", by the key
 unfoldable pub flagRead : List ℕ → Slot → List ℕ → State → Found
 flagRead key f s b =
-    pick (shape (wordRow key (text "-")) 0 s) (found.Line (length key + 2) b)
-    (pick (shape (wordRow key (text "no")) 0 s) (found.Line (length key + 3) (flagTold f flagIs.No b))
-    (pick (shape (wordRow key (text "yes")) 0 s) (found.Line (length key + 4) (flagTold f flagIs.Yes b)) found.Nothing))
+    pick (shape (wordLayout key (text "-")) 0 s) (found.Line (length key + 2) b)
+    (pick (shape (wordLayout key (text "no")) 0 s) (found.Line (length key + 3) (flagDecoded f flagIs.No b))
+    (pick (shape (wordLayout key (text "yes")) 0 s) (found.Line (length key + 4) (flagDecoded f flagIs.Yes b)) found.Nothing))

@@ -1,31 +1,31 @@
--- What the reader of a line finds at the head of the bytes: the line's size, and what is told with it.
+-- Inner: what the reader of a line finds at the head of the bytes: the line's size, and what is told with it.
 use mathlib.Core.Bool.{Bool, false, _&&_, _||_}
 use mathlib.Core.List.{List, [], _∷_}
-use Prim.Native.Nat.{ℕ, _+_, _*_}
+use Prim.Native.Nat.{ℕ, _+_}
 use lib.ListN.{take, drop}
-use Rattle.choice.specs.Pick.{pick}
-use Rattle.spelling.specs.Bytes.{areDigits, isWord, letters, number, sameBytes}
-use Rattle.spelling.specs.Spelling.{digits}
-use Rattle.forms.specs.Block.{Line, layoutAt}
+use Rattle.cond.specs.Pick.{pick}
+use Rattle.spelling.specs.Bytes.{letters, sameBytes}
+use Rattle.spelling.specs.Spelling.{digits, isSpelled, words}
+use Rattle.forms.specs.Block.{Line, variantAt}
 use Rattle.forms.specs.Carries.{carriesOf}
-use Rattle.forms.specs.Fields.Offset.{minutesFrom}
-use Rattle.forms.specs.Fields.Position.{latitudeFrom, longitudeFrom}
-use Rattle.forms.specs.Fields.Sign.{signTied}
-use Rattle.forms.specs.Places.{Row, fixed, has, part, rowWidth, shape, values}
+use Rattle.forms.specs.Fields.Offset.{decodeMinutes}
+use Rattle.forms.specs.Fields.Position.{decodeLatitude, decodeLongitude}
+use Rattle.forms.specs.Fields.Sign.{signConsistent}
+use Rattle.forms.specs.Places.{Layout, fixed, has, part, layoutWidth, shape, values}
 use Rattle.forms.specs.Slots.{Slot, Values, altitude, change, channel, day, dsp, fix, halfHour, hour, latitudeDegrees, latitudePart, leap, longitudeDegrees, longitudePart, lsp, minus, minute, month, notice, offsetHours, offsetMinutes, ordinal, quality, second, south, summer, sync, tenMillionth, thousandth, utc, west, year, zone}
-use Rattle.forms.specs.Spelled.{recordFrom}
+use Rattle.forms.specs.Decode.{decode}
 use Rattle.block_lines.specs.declared.state.Found.{Found}
 use Rattle.block_lines.specs.declared.state.Found.the-variants as found
 use Rattle.block_lines.specs.declared.state.State.{State}
 
--- what a row tells where its slots tell v: the record, the offset's minutes alone, and that no minus stands on a zero
-unfoldable pub decoded : Row → Values → State
+-- what a layout tells where its slots tell v: the record, the offset's minutes alone, and that no minus stands on a zero
+unfoldable pub decoded : Layout → Values → State
 decoded ps v =
     record {
-      known = recordFrom (carriesOf ps) v;
+      known = decode (carriesOf ps) v;
       minutes = v offsetMinutes;
-      zone = signTied (v minus) (minutesFrom (carriesOf ps .offset) v);
-      place = signTied (v south) (latitudeFrom v) && signTied (v west) (longitudeFrom v);
+      zone = signConsistent (v minus) (decodeMinutes (carriesOf ps .offset) v);
+      place = signConsistent (v south) (decodeLatitude v) && signConsistent (v west) (decodeLongitude v);
     }
 
 -- the slots that tell a field
@@ -60,13 +60,13 @@ offsetSlots = minus ∷ offsetHours ∷ offsetMinutes ∷ halfHour ∷ []
 abbrev pub positionSlots : List Slot
 positionSlots = south ∷ latitudeDegrees ∷ latitudePart ∷ west ∷ longitudeDegrees ∷ longitudePart ∷ altitude ∷ []
 
--- the row has a place for one of the slots
-unfoldable pub hasAny : Row → List Slot → Bool
+-- the layout has a place for one of the slots
+unfoldable pub hasAny : Layout → List Slot → Bool
 hasAny ps [] = false
 hasAny ps (f ∷ fs) = has ps f || hasAny ps fs
 
--- the fields that the row tells as x has them, the others as before
-unfoldable pub onto : Row → State → State → State
+-- the fields that the layout tells as x has them, the others as before
+unfoldable pub onto : Layout → State → State → State
 onto ps x b =
     record {
       known = record {
@@ -95,23 +95,21 @@ onto ps x b =
 -- a line at the head of the bytes, behind lines that told b
 unfoldable pub lineRead : Line → List ℕ → State → Found
 lineRead l s b =
-    pick (shape (layoutAt l 0 s) 0 s)
-    (found.Line (rowWidth (layoutAt l 0 s)) (onto (layoutAt l 0 s) (decoded (layoutAt l 0 s) (values (layoutAt l 0 s) 0 s)) b))
+    pick (shape (variantAt l 0 s) 0 s)
+    (found.Line (layoutWidth (variantAt l 0 s)) (onto (variantAt l 0 s) (decoded (variantAt l 0 s) (values (variantAt l 0 s) 0 s)) b))
     found.Nothing
 
 -- a key, a word and LF
-abbrev pub wordRow : List ℕ → List ℕ → Row
-wordRow key word = fixed key ∷ fixed word ∷ fixed (10 ∷ []) ∷ []
+abbrev pub wordLayout : List ℕ → List ℕ → Layout
+wordLayout key word = fixed key ∷ fixed word ∷ fixed (10 ∷ []) ∷ []
 
 -- a key, digits that tell a slot, and LF
-abbrev pub numberRow : List ℕ → ℕ → Slot → Row
-numberRow key w f = fixed key ∷ part (digits w) f ∷ fixed (10 ∷ []) ∷ []
+abbrev pub numberLayout : List ℕ → ℕ → Slot → Layout
+numberLayout key w f = fixed key ∷ part (digits w) f ∷ fixed (10 ∷ []) ∷ []
 
 -- "`+047.3500`" stands at k
 abbrev pub degreesAt : List ℕ → ℕ → Bool
 degreesAt s k =
-    isWord (letters (43 ∷ 45 ∷ [])) (take 1 (drop k s)) && (areDigits (take 3 (drop (k + 1) s)) && (sameBytes (take 1 (drop (k + 4) s)) (46 ∷ []) && areDigits (take 4 (drop (k + 5) s))))
-
--- its ten-thousandths
-abbrev pub degreesOf : List ℕ → ℕ → ℕ
-degreesOf s k = number (take 3 (drop (k + 1) s)) * 10000 + number (take 4 (drop (k + 5) s))
+    isSpelled (words 1 (letters (43 ∷ 45 ∷ []))) (take 1 (drop k s))
+    && (isSpelled (digits 3) (take 3 (drop (k + 1) s))
+    && (sameBytes (take 1 (drop (k + 4) s)) (46 ∷ []) && isSpelled (digits 4) (take 4 (drop (k + 5) s))))

@@ -1,11 +1,10 @@
 // The line of the channel.
 ghost use mathlib.Core.Path.{_≡_};
 ghost use mathlib.Core.List.{[]};
-ghost use Prim.Native.Nat.{_≤_};
-ghost use lib.ListN.{length, getD};
+ghost use lib.ListN.{getD};
 ghost use Rattle.forms.specs.Block.{channelLine};
 ghost use Rattle.forms.specs.Fields.Channel.{channelChoice};
-ghost use Rattle.forms.specs.Told.{told};
+ghost use Rattle.forms.specs.Encode.{encode};
 ghost use Rattle.block_lines.specs.Reading.{lineRead};
 ghost use Rattle.block_lines.specs.Stores.{Laid};
 use crate::line::has_number;
@@ -25,7 +24,7 @@ pub fn read_channel(s: &[u8], before: State) -> Found
     }
     let r = before.known;
     if has_number(b"channel=", 1, s) {
-        let channel = Channel::Number(layout::number_at(s, 8, 1));
+        let channel = Channel::Number(places::number_at(s, 8, 1));
         let known = Record { channel, ..r };
         return Found::Line(10, State { known, ..before });
     }
@@ -33,8 +32,7 @@ pub fn read_channel(s: &[u8], before: State) -> Found
 }
 
 pub fn write_channel(r: Record, out: &mut [u8]) -> usize
-    requires { ⌜ 10 ≤ length (now out) ⌝ }
-    ensures { λ n. ⌜ Laid (getD channelLine (channelChoice (r .channel)) []) (told r) n (now (out .entry)) (now (out .exit)) ⌝ }
+    ensures { λ n. ⌜ Laid (getD channelLine (channelChoice (r .channel)) []) (encode r) n (now (out .entry)) (now (out .exit)) ⌝ }
 {
     let channel = r.channel;
     match channel {

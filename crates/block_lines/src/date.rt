@@ -1,14 +1,14 @@
 // The line of the date.
 ghost use mathlib.Core.Path.{_≡_};
 ghost use mathlib.Core.List.{[]};
-ghost use Prim.Native.Nat.{_≤_};
-ghost use lib.ListN.{length, getD};
+ghost use lib.ListN.{getD};
 ghost use Rattle.forms.specs.Block.{dateLine};
 ghost use Rattle.forms.specs.Fields.Date.{dateChoice};
-ghost use Rattle.forms.specs.Places.{rowWidth, shape};
-ghost use Rattle.forms.specs.Told.{told};
+ghost use Rattle.forms.specs.Places.{shape};
+ghost use Rattle.forms.specs.Slots.{Values, ordinal};
+ghost use Rattle.forms.specs.Encode.{encode};
 ghost use Rattle.block_lines.specs.Reading.{lineRead};
-ghost use Rattle.block_lines.specs.Stores.{Laid, dayStored, fullDateStored};
+ghost use Rattle.block_lines.specs.Stores.{Laid};
 use crate::line::has_word;
 use crate::line::put_word;
 use crate::state::Found;
@@ -20,22 +20,17 @@ use record::Record;
 fn has_full_date(s: &[u8]) -> bool
     ensures { λ r. ⌜ r ≡ shape (getD dateLine 1 []) 0 (now (s .entry)) ⌝ }
 {
-    if s.len() < 14 {
-        return false;
-    }
-    layout::text_at(s, 0, b"date=") & (layout::pairs_at(s, 5, b'-') & layout::is_at(s, 13, b'\n'))
+    places::text_at(s, 0, b"date=") & places::pairs_at(s, 5, b'-') & places::is_at(s, 13, b'\n')
 }
 
 // `date=day-060`
 fn has_day_of_year(s: &[u8]) -> bool
     ensures { λ r. ⌜ r ≡ shape (getD dateLine 2 []) 0 (now (s .entry)) ⌝ }
 {
-    if s.len() < 13 {
-        return false;
-    }
-    layout::text_at(s, 0, b"date=")
-        & (layout::text_at(s, 5, b"day-")
-            & (layout::digits_at(s, 9, 3) & layout::is_at(s, 12, b'\n')))
+    places::text_at(s, 0, b"date=")
+        & places::text_at(s, 5, b"day-")
+        & places::digits_at(s, 9, 3)
+        & places::is_at(s, 12, b'\n')
 }
 
 pub fn read_date(s: &[u8], before: State) -> Found
@@ -47,15 +42,15 @@ pub fn read_date(s: &[u8], before: State) -> Found
     let r = before.known;
     if has_full_date(s) {
         let date = Date::Full {
-            year: layout::number_at(s, 5, 2),
-            month: layout::number_at(s, 8, 2),
-            day: layout::number_at(s, 11, 2),
+            year: places::number_at(s, 5, 2),
+            month: places::number_at(s, 8, 2),
+            day: places::number_at(s, 11, 2),
         };
         let known = Record { date, ..r };
         return Found::Line(14, State { known, ..before });
     }
     if has_day_of_year(s) {
-        let date = Date::DayOfYear(layout::number_at(s, 9, 3));
+        let date = Date::DayOfYear(places::number_at(s, 9, 3));
         let known = Record { date, ..r };
         return Found::Line(13, State { known, ..before });
     }
@@ -63,20 +58,26 @@ pub fn read_date(s: &[u8], before: State) -> Found
 }
 
 // `date=24-02-29`
-fn put_full_date(year: u32, month: u32, day: u32, out: &mut [u8]) -> usize
-    requires { ⌜ 14 ≤ length (now out) ⌝ }
-    ensures { λ n. ⌜ (n ≡ 14) × (now (out .exit) ≡ fullDateStored year month day (now (out .entry))) ⌝ }
+fn put_full_date(r: Record, out: &mut [u8]) -> usize
+    ensures { λ n. ⌜ Laid (getD dateLine 1 []) (encode r) n (now (out .entry)) (now (out .exit)) ⌝ }
 {
+    let date = r.date;
     spelling::put_bytes(out, 0, b"date=");
-    layout::put_pairs(out, 5, b'-', year, month, day);
+    places::put_pairs(
+        out,
+        5,
+        b'-',
+        fields::year_of(date),
+        fields::month_of(date),
+        fields::day_of(date),
+    );
     spelling::put_byte(out, 13, b'\n');
     14
 }
 
 // `date=day-060`
 fn put_day_of_year(n: u32, out: &mut [u8]) -> usize
-    requires { ⌜ 13 ≤ length (now out) ⌝ }
-    ensures { λ size. ⌜ (size ≡ 13) × (now (out .exit) ≡ dayStored n (now (out .entry))) ⌝ }
+    ensures { λ size. ⌜ ((v : Values) → v ordinal ≡ n → Laid (getD dateLine 2 []) v size (now (out .entry)) (now (out .exit))) ⌝ }
 {
     spelling::put_bytes(out, 0, b"date=");
     spelling::put_bytes(out, 5, b"day-");
@@ -86,13 +87,16 @@ fn put_day_of_year(n: u32, out: &mut [u8]) -> usize
 }
 
 pub fn write_date(r: Record, out: &mut [u8]) -> usize
-    requires { ⌜ rowWidth (getD dateLine (dateChoice (r .date)) []) ≤ length (now out) ⌝ }
-    ensures { λ n. ⌜ Laid (getD dateLine (dateChoice (r .date)) []) (told r) n (now (out .entry)) (now (out .exit)) ⌝ }
+    ensures { λ n. ⌜ Laid (getD dateLine (dateChoice (r .date)) []) (encode r) n (now (out .entry)) (now (out .exit)) ⌝ }
 {
     let date = r.date;
     match date {
         Date::Absent => put_word(b"date=", b"-", out),
-        Date::Full { year, month, day } => put_full_date(year, month, day, out),
+        Date::Full {
+            year: _,
+            month: _,
+            day: _,
+        } => put_full_date(r, out),
         Date::DayOfYear(n) => put_day_of_year(n, out),
     }
 }

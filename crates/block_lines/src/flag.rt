@@ -1,9 +1,9 @@
 // The lines of the yes or no fields, by their keys.
 ghost use mathlib.Core.Path.{_≡_};
-ghost use Prim.Native.Nat.{_+_, _≤_, _<_};
-ghost use lib.ListN.{length};
+ghost use Rattle.forms.specs.Encode.{encode};
 ghost use Rattle.block_lines.specs.Flags.{flagIn, flagRead, flagSlot, withFlag};
-ghost use Rattle.block_lines.specs.Stores.{flagText, wordStored};
+ghost use Rattle.block_lines.specs.Reading.{wordLayout};
+ghost use Rattle.block_lines.specs.Stores.{Laid, flagText};
 use crate::line::has_word;
 use crate::line::put_word;
 use crate::state::Found;
@@ -44,7 +44,6 @@ fn with_flag(i: usize, flag: Flag, r: Record) -> Record
 }
 
 pub fn read_flag(i: usize, key: &[u8], s: &[u8], before: State) -> Found
-    requires { ⌜ length (now key) ≤ 90 ⌝ }
     ensures { λ r. ⌜ r ≡ flagRead (now (key .entry)) (flagSlot i) (now (s .entry)) before ⌝ }
 {
     let k = key.len();
@@ -64,8 +63,7 @@ pub fn read_flag(i: usize, key: &[u8], s: &[u8], before: State) -> Found
 }
 
 pub fn write_flag(i: usize, key: &[u8], r: Record, out: &mut [u8]) -> usize
-    requires { ⌜ length (now key) + length (flagText (flagIn (flagSlot i) r)) < length (now out) ⌝ }
-    ensures { λ n. ⌜ (n ≡ length (now (key .entry)) + length (flagText (flagIn (flagSlot i) r)) + 1) × (now (out .exit) ≡ wordStored (now (key .entry)) (flagText (flagIn (flagSlot i) r)) (now (out .entry))) ⌝ }
+    ensures { λ n. ⌜ Laid (wordLayout (now (key .entry)) (flagText (flagIn (flagSlot i) r))) (encode r) n (now (out .entry)) (now (out .exit)) ⌝ }
 {
     let flag = flag_of(i, r);
     match flag {

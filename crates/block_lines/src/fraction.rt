@@ -1,12 +1,10 @@
 // The line of the fraction.
 ghost use mathlib.Core.Path.{_≡_};
 ghost use mathlib.Core.List.{[]};
-ghost use Prim.Native.Nat.{_≤_};
-ghost use lib.ListN.{length, getD};
+ghost use lib.ListN.{getD};
 ghost use Rattle.forms.specs.Block.{fractionLine};
 ghost use Rattle.forms.specs.Fields.Fraction.{fractionChoice};
-ghost use Rattle.forms.specs.Places.{rowWidth};
-ghost use Rattle.forms.specs.Told.{told};
+ghost use Rattle.forms.specs.Encode.{encode};
 ghost use Rattle.block_lines.specs.Reading.{lineRead};
 ghost use Rattle.block_lines.specs.Stores.{Laid};
 use crate::line::has_number;
@@ -26,12 +24,12 @@ pub fn read_fraction(s: &[u8], before: State) -> Found
     }
     let r = before.known;
     if has_number(b"fraction=", 3, s) {
-        let fraction = Fraction::Thousandths(layout::number_at(s, 9, 3));
+        let fraction = Fraction::Thousandths(places::number_at(s, 9, 3));
         let known = Record { fraction, ..r };
         return Found::Line(13, State { known, ..before });
     }
     if has_number(b"fraction=", 7, s) {
-        let fraction = Fraction::TenMillionths(layout::number_at(s, 9, 7));
+        let fraction = Fraction::TenMillionths(places::number_at(s, 9, 7));
         let known = Record { fraction, ..r };
         return Found::Line(17, State { known, ..before });
     }
@@ -39,8 +37,7 @@ pub fn read_fraction(s: &[u8], before: State) -> Found
 }
 
 pub fn write_fraction(r: Record, out: &mut [u8]) -> usize
-    requires { ⌜ rowWidth (getD fractionLine (fractionChoice (r .fraction)) []) ≤ length (now out) ⌝ }
-    ensures { λ n. ⌜ Laid (getD fractionLine (fractionChoice (r .fraction)) []) (told r) n (now (out .entry)) (now (out .exit)) ⌝ }
+    ensures { λ n. ⌜ Laid (getD fractionLine (fractionChoice (r .fraction)) []) (encode r) n (now (out .entry)) (now (out .exit)) ⌝ }
 {
     let fraction = r.fraction;
     match fraction {

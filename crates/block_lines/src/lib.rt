@@ -6,6 +6,5 @@ pub mod fraction;
 mod line;
 pub mod offset;
 pub mod position;
-mod sign;
 pub mod state;
 pub mod time;

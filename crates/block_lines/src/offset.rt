@@ -5,16 +5,15 @@ ghost use mathlib.Core.List.{[]};
 ghost use Prim.Native.Nat.{_≤_};
 ghost use lib.ListN.{length, getD};
 ghost use Rattle.forms.specs.Block.{offsetLine};
-ghost use Rattle.forms.specs.Fields.Offset.{inMinutes, minutesFrom, offsetChoice, offsetFrom};
-ghost use Rattle.forms.specs.Fields.Sign.{signTied};
-ghost use Rattle.forms.specs.Places.{rowWidth, shape, values};
+ghost use Rattle.forms.specs.Fields.Offset.{inMinutes, decodeMinutes, offsetChoice, decodeOffset};
+ghost use Rattle.forms.specs.Fields.Sign.{signConsistent};
+ghost use Rattle.forms.specs.Places.{shape, values};
 ghost use Rattle.forms.specs.Slots.{minus};
-ghost use Rattle.forms.specs.Told.{told};
+ghost use Rattle.forms.specs.Encode.{encode};
 ghost use Rattle.block_lines.specs.Reading.{lineRead};
-ghost use Rattle.block_lines.specs.Stores.{Laid, offsetStored};
+ghost use Rattle.block_lines.specs.Stores.{Laid};
 use crate::line::has_word;
 use crate::line::put_word;
-use crate::sign::sign_agrees;
 use crate::state::Found;
 use crate::state::State;
 use record::Offset;
@@ -24,37 +23,27 @@ use record::Record;
 fn has_offset(s: &[u8]) -> bool
     ensures { λ r. ⌜ r ≡ shape (getD offsetLine 1 []) 0 (now (s .entry)) ⌝ }
 {
-    if s.len() < 14 {
-        return false;
-    }
-    layout::text_at(s, 0, b"offset=")
-        & (layout::letter_at(s, 7, b'+', b'-')
-            & (layout::digits_at(s, 8, 2)
-                & (layout::is_at(s, 10, b':')
-                    & (layout::digits_at(s, 11, 2) & layout::is_at(s, 13, b'\n')))))
-}
-
-// Hours and minutes.
-fn minutes_at(s: &[u8]) -> u32
-    requires { ⌜ 14 ≤ length (now s) ⌝ }
-    ensures { λ r. ⌜ (r ≡ minutesFrom inMinutes (values (getD offsetLine 1 []) 0 (now (s .entry)))) × (r ≤ 2147483647) ⌝ }
-{
-    layout::number_at(s, 8, 2) * 60 + layout::number_at(s, 11, 2)
+    places::text_at(s, 0, b"offset=")
+        & places::letter_at(s, 7, b"+-")
+        & places::digits_at(s, 8, 2)
+        & places::is_at(s, 10, b':')
+        & places::digits_at(s, 11, 2)
+        & places::is_at(s, 13, b'\n')
 }
 
 fn offset_at(s: &[u8]) -> Offset
     requires { ⌜ 14 ≤ length (now s) ⌝ }
-    ensures { λ r. ⌜ r ≡ offsetFrom true (values (getD offsetLine 1 []) 0 (now (s .entry)) minus) (minutesFrom inMinutes (values (getD offsetLine 1 []) 0 (now (s .entry)))) ⌝ }
+    ensures { λ r. ⌜ r ≡ decodeOffset true (values (getD offsetLine 1 []) 0 (now (s .entry)) minus) (decodeMinutes inMinutes (values (getD offsetLine 1 []) 0 (now (s .entry)))) ⌝ }
 {
     let behind = s[7] != b'+';
-    Offset::Minutes(record::sign::signed_number(behind, minutes_at(s)))
+    Offset::Minutes(record::sign::signed_number(behind, places::minutes_at(s, 8)))
 }
 
-fn tied_at(s: &[u8]) -> bool
+fn consistent_at(s: &[u8]) -> bool
     requires { ⌜ 14 ≤ length (now s) ⌝ }
-    ensures { λ r. ⌜ r ≡ signTied (values (getD offsetLine 1 []) 0 (now (s .entry)) minus) (minutesFrom inMinutes (values (getD offsetLine 1 []) 0 (now (s .entry)))) ⌝ }
+    ensures { λ r. ⌜ r ≡ signConsistent (values (getD offsetLine 1 []) 0 (now (s .entry)) minus) (decodeMinutes inMinutes (values (getD offsetLine 1 []) 0 (now (s .entry)))) ⌝ }
 {
-    sign_agrees(s, 7, minutes_at(s))
+    places::sign_agrees(s, 7, b'+', places::minutes_at(s, 8))
 }
 
 pub fn read_offset(s: &[u8], before: State) -> Found
@@ -69,8 +58,8 @@ pub fn read_offset(s: &[u8], before: State) -> Found
         let known = Record { offset, ..r };
         let state = State {
             known,
-            minutes: layout::number_at(s, 11, 2),
-            zone: tied_at(s),
+            minutes: places::number_at(s, 11, 2),
+            zone: consistent_at(s),
             place: before.place,
         };
         return Found::Line(14, state);
@@ -79,12 +68,13 @@ pub fn read_offset(s: &[u8], before: State) -> Found
 }
 
 // `offset=+01:00`
-fn put_offset(minus: bool, minutes: u32, out: &mut [u8]) -> usize
-    requires { ⌜ 14 ≤ length (now out) ⌝ }
-    ensures { λ n. ⌜ (n ≡ 14) × (now (out .exit) ≡ offsetStored minus minutes (now (out .entry))) ⌝ }
+fn put_offset(r: Record, out: &mut [u8]) -> usize
+    ensures { λ n. ⌜ Laid (getD offsetLine 1 []) (encode r) n (now (out .entry)) (now (out .exit)) ⌝ }
 {
+    let offset = r.offset;
+    let minutes = fields::minutes_of(offset);
     spelling::put_bytes(out, 0, b"offset=");
-    layout::put_letter(out, 7, b'+', b'-', minus);
+    places::put_choice(out, 7, b"+-", fields::is_minus(offset));
     spelling::put_digits(out, 8, 2, minutes / 60);
     spelling::put_byte(out, 10, b':');
     spelling::put_digits(out, 11, 2, minutes % 60);
@@ -93,14 +83,11 @@ fn put_offset(minus: bool, minutes: u32, out: &mut [u8]) -> usize
 }
 
 pub fn write_offset(r: Record, out: &mut [u8]) -> usize
-    requires { ⌜ rowWidth (getD offsetLine (offsetChoice (r .offset)) []) ≤ length (now out) ⌝ }
-    ensures { λ n. ⌜ Laid (getD offsetLine (offsetChoice (r .offset)) []) (told r) n (now (out .entry)) (now (out .exit)) ⌝ }
+    ensures { λ n. ⌜ Laid (getD offsetLine (offsetChoice (r .offset)) []) (encode r) n (now (out .entry)) (now (out .exit)) ⌝ }
 {
     let offset = r.offset;
     match offset {
         Offset::Absent => put_word(b"offset=", b"-", out),
-        Offset::Minutes(_) => {
-            put_offset(fields::is_minus(offset), fields::minutes_of(offset), out)
-        }
+        Offset::Minutes(_) => put_offset(r, out),
     }
 }

@@ -1,11 +1,10 @@
 // The line of the time.
 ghost use mathlib.Core.Path.{_≡_};
 ghost use mathlib.Core.List.{[]};
-ghost use Prim.Native.Nat.{_≤_};
-ghost use lib.ListN.{length, getD};
+ghost use lib.ListN.{getD};
 ghost use Rattle.forms.specs.Block.{timeLine};
 ghost use Rattle.forms.specs.Places.{shape};
-ghost use Rattle.forms.specs.Told.{told};
+ghost use Rattle.forms.specs.Encode.{encode};
 ghost use Rattle.block_lines.specs.Reading.{lineRead};
 ghost use Rattle.block_lines.specs.Stores.{Laid};
 use crate::state::Found;
@@ -16,10 +15,7 @@ use record::Record;
 fn has_time(s: &[u8]) -> bool
     ensures { λ r. ⌜ r ≡ shape (getD timeLine 0 []) 0 (now (s .entry)) ⌝ }
 {
-    if s.len() < 14 {
-        return false;
-    }
-    layout::text_at(s, 0, b"time=") & (layout::pairs_at(s, 5, b':') & layout::is_at(s, 13, b'\n'))
+    places::text_at(s, 0, b"time=") & places::pairs_at(s, 5, b':') & places::is_at(s, 13, b'\n')
 }
 
 pub fn read_time(s: &[u8], before: State) -> Found
@@ -28,9 +24,9 @@ pub fn read_time(s: &[u8], before: State) -> Found
     if has_time(s) {
         let r = before.known;
         let known = Record {
-            hour: layout::number_at(s, 5, 2),
-            minute: layout::number_at(s, 8, 2),
-            second: layout::number_at(s, 11, 2),
+            hour: places::number_at(s, 5, 2),
+            minute: places::number_at(s, 8, 2),
+            second: places::number_at(s, 11, 2),
             ..r
         };
         return Found::Line(14, State { known, ..before });
@@ -39,11 +35,10 @@ pub fn read_time(s: &[u8], before: State) -> Found
 }
 
 pub fn write_time(r: Record, out: &mut [u8]) -> usize
-    requires { ⌜ 14 ≤ length (now out) ⌝ }
-    ensures { λ n. ⌜ Laid (getD timeLine 0 []) (told r) n (now (out .entry)) (now (out .exit)) ⌝ }
+    ensures { λ n. ⌜ Laid (getD timeLine 0 []) (encode r) n (now (out .entry)) (now (out .exit)) ⌝ }
 {
     spelling::put_bytes(out, 0, b"time=");
-    layout::put_pairs(out, 5, b':', r.hour, r.minute, r.second);
+    places::put_pairs(out, 5, b':', r.hour, r.minute, r.second);
     spelling::put_byte(out, 13, b'\n');
     14
 }

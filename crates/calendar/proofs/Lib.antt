@@ -4,3 +4,4 @@ pub mod Count
 pub mod Ranges
 pub mod Search
 pub mod DayOfYear
+pub mod Values

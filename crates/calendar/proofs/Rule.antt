@@ -1,13 +1,7 @@
 -- The rule of the month table: each entry plus its month's length gives the next. One computed test shows it for a whole table.
-use mathlib.Core.Path.{_≡_, _∙_, refl, ap}
-use mathlib.Core.Bool.{Bool, true, false, _&&_}
-use mathlib.Core.List.{List, [], _∷_}
-use Prim.Native.Nat.{ℕ, zero, suc, _+_, _<_}
-use native.Mathlib.Nat.{add-zero, zero-add, add-suc, suc-add, le-of-suc-le-suc, not-suc-le-zero}
-use borrow.Author.Tests.{eqb-true}
-use lib.Dec.{T, eqb}
-use lib.ListN.{length, getD}
-use Rattle.choice.proofs.Tests.{both}
+use Rattle.cond.proofs.Kit.{[], _&&_, _+_, _<_, _∙_, _∷_, _≡_, add-suc, add-zero, ap, Bool, eqb, eqb-true, false, getD, le-of-suc-le-suc, length, List}
+use Rattle.cond.proofs.Kit.{not-suc-le-zero, refl, suc, suc-add, T, true, zero, zero-add, ℕ}
+use Rattle.cond.proofs.Tests.{both}
 use Rattle.calendar.specs.Calendar.{firstDay, lengthAt}
 
 -- the first entry is d, the days before month k, and each next one is later by the month between

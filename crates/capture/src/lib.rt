@@ -3,13 +3,12 @@ ghost use mathlib.Core.Path.{_≡_};
 ghost use Prim.Native.Nat.{_≤_};
 ghost use lib.ListN.{length, take, drop};
 ghost use Rattle.forms.specs.Form.{Wrote, carries, readBy, valuesBy};
-ghost use Rattle.forms.specs.Needs.{hasAll};
+ghost use Rattle.forms.specs.Required.{hasCarried};
 ghost use Rattle.forms.specs.Places.{shape};
-ghost use Rattle.forms.specs.Serial.{capture, captureRow};
-ghost use Rattle.forms.specs.Spelled.{recordFrom};
-ghost use Rattle.forms.specs.Told.{told};
-ghost use Rattle.layout.specs.Admitted.{Storable};
-ghost use Rattle.layout.specs.Stores.{stores};
+ghost use Rattle.forms.specs.Serial.{capture, captureLayout};
+ghost use Rattle.forms.specs.Decode.{decode};
+ghost use Rattle.forms.specs.Encode.{encode};
+ghost use Rattle.places.specs.Stores.{stores};
 use record::Channel;
 use record::Date;
 use record::Fraction;
@@ -19,36 +18,34 @@ use record::answer::Writing;
 use record::refusal::Refusal;
 
 fn has_shape(s: &[u8]) -> bool
-    requires { ⌜ length (now s) ≡ 31 ⌝ }
-    ensures { λ r. ⌜ r ≡ shape captureRow 0 (now (s .entry)) ⌝ }
+    ensures { λ r. ⌜ r ≡ shape captureLayout 0 (now (s .entry)) ⌝ }
 {
-    layout::text_at(s, 0, b"CH")
-        & layout::digits_at(s, 2, 1)
-        & layout::is_at(s, 3, b' ')
-        & layout::pairs_at(s, 4, b'.')
-        & layout::is_at(s, 12, b' ')
-        & layout::pairs_at(s, 13, b':')
-        & layout::is_at(s, 21, b'.')
-        & layout::digits_at(s, 22, 7)
-        & layout::text_at(s, 29, b"\r\n")
+    places::text_at(s, 0, b"CH")
+        & places::digits_at(s, 2, 1)
+        & places::is_at(s, 3, b' ')
+        & places::pairs_at(s, 4, b'.')
+        & places::is_at(s, 12, b' ')
+        & places::pairs_at(s, 13, b':')
+        & places::is_at(s, 21, b'.')
+        & places::digits_at(s, 22, 7)
+        & places::text_at(s, 29, b"\r\n")
 }
 
 // Any digit decodes to a channel: its range is tested with the record's.
 fn decode(s: &[u8]) -> Record
-    requires { ⌜ length (now s) ≡ 31 ⌝ }
-    ensures { λ r. ⌜ r ≡ recordFrom (carries capture) (valuesBy capture (now (s .entry))) ⌝ }
+    ensures { λ r. ⌜ r ≡ decode (carries capture) (valuesBy capture (now (s .entry))) ⌝ }
 {
     Record {
-        hour: layout::number_at(s, 13, 2),
-        minute: layout::number_at(s, 16, 2),
-        second: layout::number_at(s, 19, 2),
+        hour: places::number_at(s, 13, 2),
+        minute: places::number_at(s, 16, 2),
+        second: places::number_at(s, 19, 2),
         date: Date::Full {
-            year: layout::number_at(s, 10, 2),
-            month: layout::number_at(s, 7, 2),
-            day: layout::number_at(s, 4, 2),
+            year: places::number_at(s, 10, 2),
+            month: places::number_at(s, 7, 2),
+            day: places::number_at(s, 4, 2),
         },
-        fraction: Fraction::TenMillionths(layout::number_at(s, 22, 7)),
-        channel: Channel::Number(layout::number_at(s, 2, 1)),
+        fraction: Fraction::TenMillionths(places::number_at(s, 22, 7)),
+        channel: Channel::Number(places::number_at(s, 2, 1)),
         ..Record::empty()
     }
 }
@@ -66,12 +63,12 @@ pub fn read(s: &[u8]) -> Reading
     if !has_shape(s) {
         return Reading::Refused(Refusal::WrongByte);
     }
-    layout::validate(decode(s))
+    places::validate(decode(s))
 }
 
 // Thousandths do not serve: a fraction is never converted.
 fn has_carried(r: Record) -> bool
-    ensures { λ b. ⌜ b ≡ hasAll (carries capture) r ⌝ }
+    ensures { λ b. ⌜ b ≡ hasCarried (carries capture) r ⌝ }
 {
     let date = r.date;
     let fraction = r.fraction;
@@ -83,15 +80,14 @@ fn has_carried(r: Record) -> bool
 
 // `CHx dd.mm.yy`
 fn store_date(r: Record, out: &mut [u8])
-    requires { ⌜ 31 ≤ length (now out) ⌝ }
-    ensures { λ _. ⌜ now (out .exit) ≡ stores (take 8 captureRow) 0 (told r) (now (out .entry)) ⌝ }
+    ensures { λ _. ⌜ now (out .exit) ≡ stores (take 8 captureLayout) 0 (encode r) (now (out .entry)) ⌝ }
 {
     let date = r.date;
     let channel = r.channel;
     spelling::put_bytes(out, 0, b"CH");
     spelling::put_digits(out, 2, 1, fields::channel_of(channel));
     spelling::put_byte(out, 3, b' ');
-    layout::put_pairs(
+    places::put_pairs(
         out,
         4,
         b'.',
@@ -103,20 +99,18 @@ fn store_date(r: Record, out: &mut [u8])
 
 // ` hh:mm:ss.fffffff<CR><LF>`
 fn store_time(r: Record, out: &mut [u8])
-    requires { ⌜ 31 ≤ length (now out) ⌝ }
-    ensures { λ _. ⌜ now (out .exit) ≡ stores (drop 8 captureRow) 12 (told r) (now (out .entry)) ⌝ }
+    ensures { λ _. ⌜ now (out .exit) ≡ stores (drop 8 captureLayout) 12 (encode r) (now (out .entry)) ⌝ }
 {
     let fraction = r.fraction;
     spelling::put_byte(out, 12, b' ');
-    layout::put_pairs(out, 13, b':', r.hour, r.minute, r.second);
+    places::put_pairs(out, 13, b':', r.hour, r.minute, r.second);
     spelling::put_byte(out, 21, b'.');
     spelling::put_digits(out, 22, 7, fields::ten_millionths_of(fraction));
     spelling::put_bytes(out, 29, b"\r\n");
 }
 
 fn store(r: Record, out: &mut [u8])
-    requires { ⌜ Storable capture r (length (now out)) ⌝ }
-    ensures { λ _. ⌜ now (out .exit) ≡ stores captureRow 0 (told r) (now (out .entry)) ⌝ }
+    ensures { λ _. ⌜ now (out .exit) ≡ stores captureLayout 0 (encode r) (now (out .entry)) ⌝ }
 {
     store_date(r, out);
     store_time(r, out);
@@ -125,7 +119,7 @@ fn store(r: Record, out: &mut [u8])
 pub fn write(r: Record, out: &mut [u8]) -> Writing
     ensures { λ w. ⌜ Wrote capture r w (now (out .entry)) (now (out .exit)) ⌝ }
 {
-    let answer = layout::admitted(r.is_good(), has_carried(r), true, 31, out.len());
+    let answer = places::admitted(r.is_good(), has_carried(r), true, 31, out.len());
     match answer {
         Writing::Written(n) => {
             store(r, out);

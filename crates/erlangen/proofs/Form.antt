@@ -1,32 +1,26 @@
 -- What the tests of a Uni Erlangen string come to.
-use mathlib.Core.Path.{_≡_, refl, sym, ap, _∙_}
-use mathlib.Core.Bool.{Bool, true, not, _&&_, _||_, and-true}
-use mathlib.Core.List.{List, [], _∷_}
-use Prim.Native.Nat.{ℕ}
-use native.Mathlib.Omega.{arith}
-use borrow.Author.Tests.{ne-eqb}
-use lib.Dec.{eqb, ltb}
-use lib.ListN.{length, getD, take, drop}
-use Rattle.choice.specs.Pick.{oneIf}
-use Rattle.spelling.specs.Bytes.{letters, sameBytes, wordPlace}
+use Rattle.spelling.specs.Spelling.{valueOf, words}
+use Rattle.cond.proofs.Kit.{[], _&&_, _||_, _∙_, _∷_, _≡_, and-true, ap, arith, Bool, drop, eqb, getD, length, List, ltb, ne-eqb, not, refl, sym, take, true, ℕ}
+use Rattle.cond.specs.Pick.{oneIf}
+use Rattle.spelling.specs.Bytes.{letters, sameBytes}
 use Rattle.record.specs.declared.Record.{Record}
 use Rattle.record.specs.Record.{zoneAgrees}
 use Rattle.forms.specs.Carries.{carriesOf}
-use Rattle.forms.specs.Fields.Flag.{flagFrom}
-use Rattle.forms.specs.Fields.Offset.{inMinutes, minutesFrom}
-use Rattle.forms.specs.Fields.Position.{latitudeFrom, longitudeFrom}
-use Rattle.forms.specs.Fields.Time.{leapTied, secondsTied}
-use Rattle.forms.specs.Form.{carries, numbersInRange, readBy, signsTied, valuesBy}
+use Rattle.forms.specs.Fields.Flag.{decodeFlag}
+use Rattle.forms.specs.Fields.Offset.{inMinutes, decodeMinutes}
+use Rattle.forms.specs.Fields.Position.{decodeLatitude, decodeLongitude}
+use Rattle.forms.specs.Fields.Time.{leapConsistent, secondsConsistent}
+use Rattle.forms.specs.Form.{carries, numbersInRange, readBy, signsConsistent, valuesBy}
 use Rattle.forms.specs.Places.{has, shape, values}
-use Rattle.forms.specs.Serial.{erlangen, erlangenRow}
+use Rattle.forms.specs.Serial.{erlangen, erlangenLayout}
 use Rattle.forms.specs.Slots.{offsetMinutes, second, weekday}
-use Rattle.forms.specs.Spelled.{recordFrom}
-use Rattle.forms.proofs.Accepted.{read-judged}
-use Rattle.forms.proofs.Tests.{no-sum}
-use Rattle.layout.specs.Validated.{validatedOn}
-use Rattle.layout.proofs.Letters.{letter-of, same-byte}
-use Rattle.layout.proofs.Signed.{sign-tied}
-use Rattle.layout.proofs.Validated.{judged-on, restTied}
+use Rattle.forms.specs.Decode.{decode}
+use Rattle.forms.proofs.Accepted.{read-validated}
+use Rattle.forms.proofs.Tests.{no-checksum}
+use Rattle.places.specs.Validated.{verdictOn}
+use Rattle.places.proofs.Letters.{letter-of, same-byte}
+use Rattle.places.proofs.Signed.{sign-consistent}
+use Rattle.places.proofs.Validated.{validated-on, restConsistent}
 
 module _ (s : List ℕ) where
   -- the string tells no TFOM and no deleted second
@@ -35,41 +29,41 @@ module _ (s : List ℕ) where
   numbers-of = and-true _
 
   -- beside the weekday `L` and the signs are told twice
-  rest-of : restTied erlangen s ≡ (leapTied true (valuesBy erlangen s) && signsTied inMinutes (valuesBy erlangen s))
-  unfolding carriesOf has secondsTied zoneAgrees flagFrom
+  rest-of : restConsistent erlangen s ≡ (leapConsistent true (valuesBy erlangen s) && signsConsistent inMinutes (valuesBy erlangen s))
+  unfolding carriesOf has secondsConsistent zoneAgrees decodeFlag
   rest-of = simp and-true
 
-  pub reads : length s ≡ 66 → shape erlangenRow 0 s ≡ true → (r : Record) (n : ℕ) (a b : Bool) → r ≡ recordFrom (carries erlangen) (valuesBy erlangen s)
+  pub reads : length s ≡ 66 → shape erlangenLayout 0 s ≡ true → (r : Record) (n : ℕ) (a b : Bool) → r ≡ decode (carries erlangen) (valuesBy erlangen s)
       → n ≡ valuesBy erlangen s weekday → a ≡ ltb (valuesBy erlangen s offsetMinutes) 60
-      → b ≡ (leapTied true (valuesBy erlangen s) && signsTied inMinutes (valuesBy erlangen s)) → validatedOn r n a b ≡ readBy erlangen s
+      → b ≡ (leapConsistent true (valuesBy erlangen s) && signsConsistent inMinutes (valuesBy erlangen s)) → verdictOn r n a b ≡ readBy erlangen s
   unfolding has
   reads l h r n a b e f p q =
       let v = valuesBy erlangen s in
-      let d : Record = recordFrom (carries erlangen) v in
-      ap (λ (x : Record). validatedOn x n a b) e
-      ∙ ap (λ (x : ℕ). validatedOn d x a b) f
-      ∙ ap (λ (x : Bool). validatedOn d (v weekday) x b) (p ∙ sym numbers-of)
-      ∙ ap (λ (x : Bool). validatedOn d (v weekday) (numbersInRange v) x) (q ∙ sym rest-of)
-      ∙ judged-on erlangen s refl refl
-      ∙ sym (read-judged erlangen s l h (no-sum _ _))
+      let d : Record = decode (carries erlangen) v in
+      ap (λ (x : Record). verdictOn x n a b) e
+      ∙ ap (λ (x : ℕ). verdictOn d x a b) f
+      ∙ ap (λ (x : Bool). verdictOn d (v weekday) x b) (p ∙ sym numbers-of)
+      ∙ ap (λ (x : Bool). verdictOn d (v weekday) (numbersInRange v) x) (q ∙ sym rest-of)
+      ∙ validated-on erlangen s refl refl
+      ∙ sym (read-validated erlangen s l h (no-checksum _ _))
 
   module _ (l : length s ≡ 66) where
     -- `L` in second 60, and a space in any other
 
-    pub plain-letter : (valuesBy erlangen s second ≡ 60 → ⊥) → leapTied true (valuesBy erlangen s) ≡ sameBytes (take 1 (drop 38 s)) (32 ∷ [])
-    unfolding leapTied values
+    pub plain-letter : (valuesBy erlangen s second ≡ 60 → ⊥) → leapConsistent true (valuesBy erlangen s) ≡ sameBytes (take 1 (drop 38 s)) (32 ∷ [])
+    unfolding leapConsistent values
     plain-letter n =
-        ap (λ (t : Bool). eqb (wordPlace (letters (32 ∷ 76 ∷ [])) (take 1 (drop 38 s))) (oneIf t)) (ne-eqb _ 60 n)
+        ap (λ (t : Bool). eqb (valueOf (words 1 (letters (32 ∷ 76 ∷ []))) (take 1 (drop 38 s))) (oneIf t)) (ne-eqb _ 60 n)
         ∙ letter-of s 38 (omega arith) (32 ∷ 76 ∷ []) 0 refl (omega arith) ∙ sym (same-byte s 38 (omega arith) 32)
 
-    pub leap-letter : valuesBy erlangen s second ≡ 60 → leapTied true (valuesBy erlangen s) ≡ sameBytes (take 1 (drop 38 s)) (76 ∷ [])
-    unfolding leapTied values
+    pub leap-letter : valuesBy erlangen s second ≡ 60 → leapConsistent true (valuesBy erlangen s) ≡ sameBytes (take 1 (drop 38 s)) (76 ∷ [])
+    unfolding leapConsistent values
     leap-letter e =
-        ap (λ (n : ℕ). eqb (wordPlace (letters (32 ∷ 76 ∷ [])) (take 1 (drop 38 s))) (oneIf (eqb n 60))) e
+        ap (λ (n : ℕ). eqb (valueOf (words 1 (letters (32 ∷ 76 ∷ []))) (take 1 (drop 38 s))) (oneIf (eqb n 60))) e
         ∙ letter-of s 38 (omega arith) (32 ∷ 76 ∷ []) 1 refl (omega arith) ∙ sym (same-byte s 38 (omega arith) 76)
 
     -- a minus, S or W stands on no zero
-    pub signs-of : signsTied inMinutes (valuesBy erlangen s)
-        ≡ ((eqb (getD s 24 0) 43 || not (eqb (minutesFrom inMinutes (valuesBy erlangen s)) 0)) && ((eqb (getD s 48 0) 78 || not (eqb (latitudeFrom (valuesBy erlangen s)) 0)) && (eqb (getD s 58 0) 69 || not (eqb (longitudeFrom (valuesBy erlangen s)) 0))))
-    unfolding signsTied values
-    signs-of = simp (sign-tied s 24 (omega arith) 43 45, sign-tied s 48 (omega arith) 78 83, sign-tied s 58 (omega arith) 69 87)
+    pub signs-of : signsConsistent inMinutes (valuesBy erlangen s)
+        ≡ ((eqb (getD s 24 0) 43 || not (eqb (decodeMinutes inMinutes (valuesBy erlangen s)) 0)) && ((eqb (getD s 48 0) 78 || not (eqb (decodeLatitude (valuesBy erlangen s)) 0)) && (eqb (getD s 58 0) 69 || not (eqb (decodeLongitude (valuesBy erlangen s)) 0))))
+    unfolding signsConsistent values
+    signs-of = simp (sign-consistent s 24 (omega arith) 43 45, sign-consistent s 48 (omega arith) 78 83, sign-consistent s 58 (omega arith) 69 87)

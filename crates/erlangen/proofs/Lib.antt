@@ -1,3 +1,2 @@
 pub mod Form
-pub mod Row
-pub mod Signs
+pub mod Pieces

@@ -1,22 +1,20 @@
 // The writer.
 ghost use mathlib.Core.Path.{_≡_};
-ghost use mathlib.Core.Bool.{true};
-ghost use Prim.Native.Nat.{_+_, _≤_};
-ghost use lib.ListN.{length};
+ghost use lib.ListN.{length, take, drop};
 ghost use Rattle.forms.specs.Form.{Wrote, carries};
-ghost use Rattle.forms.specs.Needs.{hasAll};
-ghost use Rattle.forms.specs.Serial.{erlangen, erlangenRow};
-ghost use Rattle.forms.specs.Told.{told};
-ghost use Rattle.layout.specs.Admitted.{Storable};
-ghost use Rattle.layout.specs.Stores.{stores};
-ghost use Rattle.layout.specs.Weekday.{exists};
+ghost use Rattle.forms.specs.Required.{hasCarried};
+ghost use Rattle.forms.specs.Serial.{erlangen, erlangenLayout};
+ghost use Rattle.forms.specs.Encode.{encode};
+ghost use Rattle.places.specs.Admitted.{Storable};
+ghost use Rattle.places.specs.Stores.{stores};
+ghost use Rattle.places.specs.Weekday.{encodeWeekday};
 ghost use Rattle.erlangen.specs.Degrees.{degreesStored};
-ghost use Rattle.erlangen.specs.Rows.{altitudeRow, dateRow, flagsRow, latitudeRow, leapRow, longitudeRow, offsetRow, positionRow, timeRow};
+ghost use Rattle.erlangen.specs.Layouts.{altitudeLayout, dateLayout, flagsLayout, latitudeLayout, leapLayout, longitudeLayout, offsetLayout, positionLayout, timeLayout};
 use record::Record;
 use record::answer::Writing;
 
 fn has_carried(r: Record) -> bool
-    ensures { λ b. ⌜ b ≡ hasAll (carries erlangen) r ⌝ }
+    ensures { λ b. ⌜ b ≡ hasCarried (carries erlangen) r ⌝ }
 {
     let date = r.date;
     let sync = r.sync;
@@ -37,13 +35,13 @@ fn has_carried(r: Record) -> bool
 }
 
 // `<STX>dd.mm.yy; w; `
-fn store_date(r: Record, out: &mut [u8])
-    requires { ⌜ (66 ≤ length (now out)) × (exists (r .date) ≡ true) ⌝ }
-    ensures { λ _. ⌜ now (out .exit) ≡ stores dateRow 0 (told r) (now (out .entry)) ⌝ }
+fn store_date(r: Record, weekday: u32, out: &mut [u8])
+    requires { ⌜ weekday ≡ encodeWeekday (r .date) ⌝ }
+    ensures { λ _. ⌜ now (out .exit) ≡ stores dateLayout 0 (encode r) (now (out .entry)) ⌝ }
 {
     let date = r.date;
     spelling::put_byte(out, 0, 2);
-    layout::put_pairs(
+    places::put_pairs(
         out,
         1,
         b'.',
@@ -52,99 +50,98 @@ fn store_date(r: Record, out: &mut [u8])
         fields::year_of(date),
     );
     spelling::put_bytes(out, 9, b"; ");
-    spelling::put_digits(out, 11, 1, layout::weekday_of(date));
+    spelling::put_digits(out, 11, 1, weekday);
     spelling::put_bytes(out, 12, b"; ");
 }
 
 // `hh:mm:ss; `
 fn store_time(r: Record, out: &mut [u8])
-    requires { ⌜ 66 ≤ length (now out) ⌝ }
-    ensures { λ _. ⌜ now (out .exit) ≡ stores timeRow 14 (told r) (now (out .entry)) ⌝ }
+    ensures { λ _. ⌜ now (out .exit) ≡ stores timeLayout 14 (encode r) (now (out .entry)) ⌝ }
 {
-    layout::put_pairs(out, 14, b':', r.hour, r.minute, r.second);
+    places::put_pairs(out, 14, b':', r.hour, r.minute, r.second);
     spelling::put_bytes(out, 22, b"; ");
 }
 
 // `voo:oo; `
 fn store_offset(r: Record, out: &mut [u8])
-    requires { ⌜ 66 ≤ length (now out) ⌝ }
-    ensures { λ _. ⌜ now (out .exit) ≡ stores offsetRow 24 (told r) (now (out .entry)) ⌝ }
+    ensures { λ _. ⌜ now (out .exit) ≡ stores offsetLayout 24 (encode r) (now (out .entry)) ⌝ }
 {
     let offset = r.offset;
     let minutes = fields::minutes_of(offset);
-    layout::put_letter(out, 24, b'+', b'-', fields::is_minus(offset));
+    places::put_choice(out, 24, b"+-", fields::is_minus(offset));
     spelling::put_digits(out, 25, 2, minutes / 60);
     spelling::put_byte(out, 27, b':');
     spelling::put_digits(out, 28, 2, minutes % 60);
     spelling::put_bytes(out, 30, b"; ");
 }
 
-// `acdfg`: sync, fix, summer, change, leap.
-fn store_flags(r: Record, out: &mut [u8])
-    requires { ⌜ 66 ≤ length (now out) ⌝ }
-    ensures { λ _. ⌜ now (out .exit) ≡ stores flagsRow 32 (told r) (now (out .entry)) ⌝ }
+// `ac`: sync, fix.
+fn store_state(r: Record, out: &mut [u8])
+    ensures { λ _. ⌜ now (out .exit) ≡ stores (take 2 flagsLayout) 32 (encode r) (now (out .entry)) ⌝ }
 {
     let sync = r.sync;
     let fix = r.fix;
+    places::put_flag(out, 32, b"# ", sync);
+    places::put_flag(out, 33, b"* ", fix);
+}
+
+// `dfg`: summer, change, leap.
+fn store_zone(r: Record, out: &mut [u8])
+    ensures { λ _. ⌜ now (out .exit) ≡ stores (drop 2 flagsLayout) 34 (encode r) (now (out .entry)) ⌝ }
+{
     let summer = r.summer;
     let change = r.change;
     let leap = r.leap;
-    layout::put_flag(out, 32, b'#', b' ', sync);
-    layout::put_flag(out, 33, b'*', b' ', fix);
-    layout::put_flag(out, 34, b' ', b'S', summer);
-    layout::put_flag(out, 35, b' ', b'!', change);
-    layout::put_flag(out, 36, b' ', b'A', leap);
+    places::put_flag(out, 34, b" S", summer);
+    places::put_flag(out, 35, b" !", change);
+    places::put_flag(out, 36, b" A", leap);
 }
 
 // ` i;`
 fn store_leap_second(r: Record, out: &mut [u8])
-    requires { ⌜ 66 ≤ length (now out) ⌝ }
-    ensures { λ _. ⌜ now (out .exit) ≡ stores leapRow 37 (told r) (now (out .entry)) ⌝ }
+    ensures { λ _. ⌜ now (out .exit) ≡ stores leapLayout 37 (encode r) (now (out .entry)) ⌝ }
 {
     spelling::put_byte(out, 37, b' ');
-    layout::put_letter(out, 38, b' ', b'L', r.second == 60);
+    places::put_choice(out, 38, b" L", r.second == 60);
     spelling::put_byte(out, 39, b';');
 }
 
 // Padded degrees, a point, four digits and one of two letters.
-fn put_degrees(out: &mut [u8], at: usize, positive: u8, negative: u8, chosen: bool, n: u32)
-    requires { ⌜ at + 9 ≤ length (now out) ⌝ }
-    ensures { λ _. ⌜ now (out .exit) ≡ degreesStored (now (out .entry)) at positive negative chosen n ⌝ }
+fn put_degrees(out: &mut [u8], at: u32, choices: &[u8], chosen: bool, n: u32)
+    ensures { λ _. ⌜ now (out .exit) ≡ degreesStored (now (out .entry)) at (now (choices .entry)) chosen n ⌝ }
 {
-    spelling::put_padded(out, at, 3, n / 10000);
-    spelling::put_byte(out, at + 3, b'.');
-    spelling::put_digits(out, at + 4, 4, n % 10000);
-    layout::put_letter(out, at + 8, positive, negative, chosen);
+    let k = at as usize;
+    spelling::put_padded(out, k, 3, n / 10000);
+    spelling::put_byte(out, k + 3, b'.');
+    spelling::put_digits(out, k + 4, 4, n % 10000);
+    places::put_choice(out, k + 8, choices, chosen);
 }
 
 // `bbb.bbbbn `
 fn store_latitude(r: Record, out: &mut [u8])
-    requires { ⌜ 66 ≤ length (now out) ⌝ }
-    ensures { λ _. ⌜ now (out .exit) ≡ stores latitudeRow 40 (told r) (now (out .entry)) ⌝ }
+    ensures { λ _. ⌜ now (out .exit) ≡ stores latitudeLayout 40 (encode r) (now (out .entry)) ⌝ }
 {
     let position = r.position;
     let south = fields::is_south(position);
     let latitude = fields::latitude_of(position);
-    put_degrees(out, 40, b'N', b'S', south, latitude);
+    put_degrees(out, 40, b"NS", south, latitude);
     spelling::put_byte(out, 49, b' ');
 }
 
 // `lll.lllle `
 fn store_longitude(r: Record, out: &mut [u8])
-    requires { ⌜ 66 ≤ length (now out) ⌝ }
-    ensures { λ _. ⌜ now (out .exit) ≡ stores longitudeRow 50 (told r) (now (out .entry)) ⌝ }
+    ensures { λ _. ⌜ now (out .exit) ≡ stores longitudeLayout 50 (encode r) (now (out .entry)) ⌝ }
 {
     let position = r.position;
     let west = fields::is_west(position);
     let longitude = fields::longitude_of(position);
-    put_degrees(out, 50, b'E', b'W', west, longitude);
+    put_degrees(out, 50, b"EW", west, longitude);
     spelling::put_byte(out, 59, b' ');
 }
 
 // `hhhhm<ETX>`
 fn store_altitude(r: Record, out: &mut [u8])
-    requires { ⌜ 66 ≤ length (now out) ⌝ }
-    ensures { λ _. ⌜ now (out .exit) ≡ stores altitudeRow 60 (told r) (now (out .entry)) ⌝ }
+    ensures { λ _. ⌜ now (out .exit) ≡ stores altitudeLayout 60 (encode r) (now (out .entry)) ⌝ }
 {
     let position = r.position;
     let altitude = fields::altitude_of(position);
@@ -153,8 +150,7 @@ fn store_altitude(r: Record, out: &mut [u8])
 }
 
 fn store_position(r: Record, out: &mut [u8])
-    requires { ⌜ 66 ≤ length (now out) ⌝ }
-    ensures { λ _. ⌜ now (out .exit) ≡ stores positionRow 40 (told r) (now (out .entry)) ⌝ }
+    ensures { λ _. ⌜ now (out .exit) ≡ stores positionLayout 40 (encode r) (now (out .entry)) ⌝ }
 {
     store_latitude(r, out);
     store_longitude(r, out);
@@ -163,12 +159,14 @@ fn store_position(r: Record, out: &mut [u8])
 
 fn store(r: Record, out: &mut [u8])
     requires { ⌜ Storable erlangen r (length (now out)) ⌝ }
-    ensures { λ _. ⌜ now (out .exit) ≡ stores erlangenRow 0 (told r) (now (out .entry)) ⌝ }
+    ensures { λ _. ⌜ now (out .exit) ≡ stores erlangenLayout 0 (encode r) (now (out .entry)) ⌝ }
 {
-    store_date(r, out);
+    let date = r.date;
+    store_date(r, places::weekday_of(date), out);
     store_time(r, out);
     store_offset(r, out);
-    store_flags(r, out);
+    store_state(r, out);
+    store_zone(r, out);
     store_leap_second(r, out);
     store_position(r, out);
 }
@@ -176,7 +174,7 @@ fn store(r: Record, out: &mut [u8])
 pub fn write(r: Record, out: &mut [u8]) -> Writing
     ensures { λ w. ⌜ Wrote erlangen r w (now (out .entry)) (now (out .exit)) ⌝ }
 {
-    let answer = layout::admitted(r.is_good(), has_carried(r), true, 66, out.len());
+    let answer = places::admitted(r.is_good(), has_carried(r), true, 66, out.len());
     match answer {
         Writing::Written(n) => {
             store(r, out);

@@ -1,11 +1,14 @@
 -- What the calendar's answers say of a date.
-use mathlib.Core.Path.{_≡_, refl, sym}
-use mathlib.Core.Bool.{Bool, true, false, _&&_, false≢true}
-use Prim.Native.Nat.{ℕ}
-use native.Mathlib.Omega.{arith}
-use lib.Dec.{eqb}
-use Rattle.choice.specs.Pick.{pick}
+use Rattle.cond.proofs.Kit.{_&&_, _≡_, arith, Bool, eqb, false, refl, sym, true, ℕ}
+use Rattle.cond.specs.Pick.{pick}
+use Rattle.calendar.specs.Answers.{dayValue}
+use Rattle.calendar.specs.Calendar.{dayOfYear, isDate}
 use Rattle.calendar.specs.declared.Day.the-variants as dayIs
+use Rattle.record.specs.declared.Date.{Date}
+use Rattle.record.specs.declared.Date.the-variants as dateIs
+use Rattle.record.specs.Record.{dateInRange}
+use Rattle.forms.specs.Fields.Date.{encodeOrdinal}
+use Rattle.fields.specs.Dates.{ordinalOf}
 
 same-number : (m n : ℕ) → dayIs.Number m ≡ dayIs.Number n → m ≡ n
 same-number m n h = cc
@@ -21,12 +24,13 @@ pub none-agrees : (b t : Bool) (m : ℕ) → pick b (dayIs.Number m) dayIs.NoSuc
 none-agrees true t m h = absurd (none-number m (sym h))
 none-agrees false t m h = refl
 
--- of a date that exists
+-- a date that exists has its number
+pub number-of : (b : Bool) (n : ℕ) → b ≡ true → dayValue (pick b (dayIs.Number n) dayIs.NoSuchDate) ≡ n
+number-of b n e = simp e
 
-pub number-of : (b : Bool) (m n : ℕ) → b ≡ true → pick b (dayIs.Number m) dayIs.NoSuchDate ≡ dayIs.Number n → n ≡ m
-number-of true m n e h = sym (same-number m n h)
-number-of false m n e h = absurd (false≢true e)
-
-pub none-of : {A : Type 0} (b : Bool) (m : ℕ) → b ≡ true → pick b (dayIs.Number m) dayIs.NoSuchDate ≡ dayIs.NoSuchDate → A
-none-of true m e h = absurd (none-number m (sym h))
-none-of false m e h = absurd (false≢true e)
+-- and so has a date in range
+pub ordinal-in-range : (d : Date) → dateInRange d ≡ true → ordinalOf d ≡ encodeOrdinal d
+unfolding dateInRange
+ordinal-in-range dateIs.Absent i = refl
+ordinal-in-range (dateIs.Full y m d) i = number-of (isDate y m d) (dayOfYear y m d) i
+ordinal-in-range (dateIs.DayOfYear n) i = refl

@@ -1,4 +1,4 @@
--- The signs that a record tells.
+-- Inner: the signs that a record tells.
 use mathlib.Core.Bool.{Bool}
 use Rattle.record.specs.declared.Offset.{Offset}
 use Rattle.record.specs.declared.Position.{Position}

@@ -1,7 +1,7 @@
 // The channel of a record: there, and its number.
 ghost use mathlib.Core.Path.{_≡_};
 ghost use mathlib.Core.Bool.{true};
-ghost use Rattle.forms.specs.Fields.Channel.{channelTold, hasChannel};
+ghost use Rattle.forms.specs.Fields.Channel.{encodeChannel, hasChannel};
 use record::Channel;
 
 pub fn has_channel(channel: Channel) -> bool
@@ -14,7 +14,7 @@ pub fn has_channel(channel: Channel) -> bool
 }
 
 pub fn channel_of(channel: Channel) -> u32
-    ensures { λ r. ⌜ r ≡ channelTold channel ⌝ }
+    ensures { λ r. ⌜ r ≡ encodeChannel channel ⌝ }
 {
     match channel {
         Channel::Absent => 0,

@@ -1,8 +1,7 @@
 // The date of a record: there and of its kind, and its numbers.
 ghost use mathlib.Core.Path.{_≡_};
-ghost use mathlib.Core.Bool.{true};
-ghost use Rattle.record.specs.Record.{dateInRange};
-ghost use Rattle.forms.specs.Fields.Date.{dayTold, fullDate, hasDate, monthTold, ordinalDate, ordinalTold, yearTold};
+ghost use Rattle.forms.specs.Fields.Date.{encodeDay, fullDate, hasDate, encodeMonth, ordinalDate, encodeYear};
+ghost use Rattle.fields.specs.Dates.{ordinalOf};
 use calendar::Day;
 use record::Date;
 
@@ -35,7 +34,7 @@ pub fn has_day_of_year(date: Date) -> bool
 }
 
 pub fn year_of(date: Date) -> u32
-    ensures { λ r. ⌜ r ≡ yearTold date ⌝ }
+    ensures { λ r. ⌜ r ≡ encodeYear date ⌝ }
 {
     match date {
         Date::Absent => 0,
@@ -49,7 +48,7 @@ pub fn year_of(date: Date) -> u32
 }
 
 pub fn month_of(date: Date) -> u32
-    ensures { λ r. ⌜ r ≡ monthTold date ⌝ }
+    ensures { λ r. ⌜ r ≡ encodeMonth date ⌝ }
 {
     match date {
         Date::Absent => 0,
@@ -63,7 +62,7 @@ pub fn month_of(date: Date) -> u32
 }
 
 pub fn day_of(date: Date) -> u32
-    ensures { λ r. ⌜ r ≡ dayTold date ⌝ }
+    ensures { λ r. ⌜ r ≡ encodeDay date ⌝ }
 {
     match date {
         Date::Absent => 0,
@@ -76,10 +75,9 @@ pub fn day_of(date: Date) -> u32
     }
 }
 
-// The day of the year of a date in range.
+// The day of the year of a date, 0 where it is absent or does not exist.
 pub fn ordinal_of(date: Date) -> u32
-    requires { ⌜ dateInRange date ≡ true ⌝ }
-    ensures { λ r. ⌜ r ≡ ordinalTold date ⌝ }
+    ensures { λ r. ⌜ r ≡ ordinalOf date ⌝ }
 {
     match date {
         Date::Absent => 0,

@@ -1,6 +1,6 @@
 // The fraction of a record: there and of its kind, and its number.
 ghost use mathlib.Core.Path.{_≡_};
-ghost use Rattle.forms.specs.Fields.Fraction.{hasFraction, tenMillionths, tenMillionthsTold, thousandths, thousandthsTold};
+ghost use Rattle.forms.specs.Fields.Fraction.{hasFraction, tenMillionths, encodeTenMillionths, thousandths, encodeThousandths};
 use record::Fraction;
 
 pub fn has_thousandths(fraction: Fraction) -> bool
@@ -24,7 +24,7 @@ pub fn has_ten_millionths(fraction: Fraction) -> bool
 }
 
 pub fn thousandths_of(fraction: Fraction) -> u32
-    ensures { λ r. ⌜ r ≡ thousandthsTold fraction ⌝ }
+    ensures { λ r. ⌜ r ≡ encodeThousandths fraction ⌝ }
 {
     match fraction {
         Fraction::Absent => 0,
@@ -34,7 +34,7 @@ pub fn thousandths_of(fraction: Fraction) -> u32
 }
 
 pub fn ten_millionths_of(fraction: Fraction) -> u32
-    ensures { λ r. ⌜ r ≡ tenMillionthsTold fraction ⌝ }
+    ensures { λ r. ⌜ r ≡ encodeTenMillionths fraction ⌝ }
 {
     match fraction {
         Fraction::Absent => 0,

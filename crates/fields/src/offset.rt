@@ -1,7 +1,7 @@
 // The offset of a record: there, and its sign and magnitude.
 ghost use mathlib.Core.Path.{_≡_};
 ghost use mathlib.Core.Bool.{true};
-ghost use Rattle.forms.specs.Fields.Offset.{hasOffset, minutesTold};
+ghost use Rattle.forms.specs.Fields.Offset.{hasOffset, encodeMinutes};
 ghost use Rattle.fields.specs.Signs.{isMinus};
 use crate::signed::Signed;
 use record::Offset;
@@ -17,7 +17,7 @@ pub fn has_offset(offset: Offset) -> bool
 
 // The offset's sign and its minutes without it, 0 where there is none.
 fn parts(offset: Offset) -> Signed
-    ensures { λ r. ⌜ (r .minus ≡ isMinus offset) × (r .magnitude ≡ minutesTold offset) ⌝ }
+    ensures { λ r. ⌜ (r .minus ≡ isMinus offset) × (r .magnitude ≡ encodeMinutes offset) ⌝ }
 {
     match offset {
         Offset::Absent => Signed {
@@ -38,7 +38,7 @@ pub fn is_minus(offset: Offset) -> bool
 }
 
 pub fn minutes_of(offset: Offset) -> u32
-    ensures { λ r. ⌜ r ≡ minutesTold offset ⌝ }
+    ensures { λ r. ⌜ r ≡ encodeMinutes offset ⌝ }
 {
     parts(offset).magnitude
 }

@@ -1,7 +1,7 @@
 // The position of a record: there, and the signs and magnitudes of its numbers.
 ghost use mathlib.Core.Path.{_≡_};
 ghost use mathlib.Core.Bool.{true};
-ghost use Rattle.forms.specs.Fields.Position.{altitudeTold, hasPosition, latitudeTold, longitudeTold};
+ghost use Rattle.forms.specs.Fields.Position.{encodeAltitude, hasPosition, encodeLatitude, encodeLongitude};
 ghost use Rattle.fields.specs.Signs.{isSouth, isWest};
 use crate::signed::Signed;
 use record::Position;
@@ -21,7 +21,7 @@ pub fn has_position(position: Position) -> bool
 
 // The latitude's sign and its magnitude, 0 where there is no position.
 fn latitude(position: Position) -> Signed
-    ensures { λ r. ⌜ (r .minus ≡ isSouth position) × (r .magnitude ≡ latitudeTold position) ⌝ }
+    ensures { λ r. ⌜ (r .minus ≡ isSouth position) × (r .magnitude ≡ encodeLatitude position) ⌝ }
 {
     match position {
         Position::Absent => Signed {
@@ -46,14 +46,14 @@ pub fn is_south(position: Position) -> bool
 }
 
 pub fn latitude_of(position: Position) -> u32
-    ensures { λ r. ⌜ r ≡ latitudeTold position ⌝ }
+    ensures { λ r. ⌜ r ≡ encodeLatitude position ⌝ }
 {
     latitude(position).magnitude
 }
 
 // The longitude's sign and its magnitude, 0 where there is no position.
 fn longitude(position: Position) -> Signed
-    ensures { λ r. ⌜ (r .minus ≡ isWest position) × (r .magnitude ≡ longitudeTold position) ⌝ }
+    ensures { λ r. ⌜ (r .minus ≡ isWest position) × (r .magnitude ≡ encodeLongitude position) ⌝ }
 {
     match position {
         Position::Absent => Signed {
@@ -78,13 +78,13 @@ pub fn is_west(position: Position) -> bool
 }
 
 pub fn longitude_of(position: Position) -> u32
-    ensures { λ r. ⌜ r ≡ longitudeTold position ⌝ }
+    ensures { λ r. ⌜ r ≡ encodeLongitude position ⌝ }
 {
     longitude(position).magnitude
 }
 
 pub fn altitude_of(position: Position) -> u32
-    ensures { λ r. ⌜ r ≡ altitudeTold position ⌝ }
+    ensures { λ r. ⌜ r ≡ encodeAltitude position ⌝ }
 {
     match position {
         Position::Absent => 0,

@@ -1,12 +1,6 @@
 -- A record's numbers are a record's, and give it back; the magnitudes of a good record fit.
-use mathlib.Core.Bool.{true, _&&_}
-use mathlib.Core.Path.{_≡_, refl}
-use Prim.Native.Nat.{ℕ, _≤_}
-use native.Mathlib.Omega.{arith}
-use borrow.Author.Tests.{le-leb, leb-true}
-use lib.Dec.{leb}
-use lib.IntN.{natAbs}
-use Rattle.choice.proofs.Tests.{both, both-hold}
+use Rattle.cond.proofs.Kit.{_&&_, _≡_, _≤_, arith, le-leb, leb, leb-true, natAbs, refl, true, ℕ}
+use Rattle.cond.proofs.Tests.{both, both-hold}
 use Rattle.record.specs.declared.Offset.{Offset}
 use Rattle.record.specs.declared.Offset.the-variants as offsetIs
 use Rattle.record.specs.declared.Position.{Position}
@@ -15,15 +9,15 @@ use Rattle.record.specs.declared.Record.{Record}
 use Rattle.record.specs.declared.answer.Reading.the-variants as reading
 use Rattle.record.specs.Record.{isGood, offsetInRange, positionInRange}
 use Rattle.forms.proofs.Bounds.{good}
-use Rattle.forms.specs.Fields.Offset.{minutesTold}
-use Rattle.forms.specs.Fields.Position.{latitudeTold, longitudeTold}
+use Rattle.forms.specs.Fields.Offset.{encodeMinutes}
+use Rattle.forms.specs.Fields.Position.{encodeLatitude, encodeLongitude}
 use Rattle.flat_record.specs.Back.{Back, magnitudesFit}
 use Rattle.flat_record.specs.Decode.{isFlat, recordAt, recordOf}
 use Rattle.flat_record.specs.Encode.{headOf, numbersOf, tailOf}
 use Rattle.flat_record.proofs.Fields.{channel-back, date-back, flag-back, fraction-back, offset-back, position-back}
 
-module _ (r : Record) (o : leb (minutesTold (r .offset)) 2147483647 ≡ true)
-    (a : leb (latitudeTold (r .position)) 2147483647 ≡ true) (b : leb (longitudeTold (r .position)) 2147483647 ≡ true) where
+module _ (r : Record) (o : leb (encodeMinutes (r .offset)) 2147483647 ≡ true)
+    (a : leb (encodeLatitude (r .position)) 2147483647 ≡ true) (b : leb (encodeLongitude (r .position)) 2147483647 ≡ true) where
   flat : isFlat (numbersOf r) ≡ true
   unfolding isFlat headOf tailOf
   flat =
@@ -47,9 +41,9 @@ module _ (r : Record) (o : leb (minutesTold (r .offset)) 2147483647 ≡ true)
 given-back : (r : Record) → magnitudesFit r ≡ true → recordOf (numbersOf r) ≡ reading.Read r
 unfolding magnitudesFit
 given-back r h =
-    let a = leb (latitudeTold (r .position)) 2147483647 in
-    let b = leb (longitudeTold (r .position)) 2147483647 in
-    let p = both (leb (minutesTold (r .offset)) 2147483647) (a && b) h in
+    let a = leb (encodeLatitude (r .position)) 2147483647 in
+    let b = leb (encodeLongitude (r .position)) 2147483647 in
+    let p = both (leb (encodeMinutes (r .offset)) 2147483647) (a && b) h in
     let q = both a b (p .1) in
     whole r (p .0) (q .0) (q .1)
 
@@ -58,12 +52,12 @@ given-back r h =
 fits : (n most : ℕ) → leb n most ≡ true → most ≤ 2147483647 → leb n 2147483647 ≡ true
 fits n most h l = le-leb n 2147483647 (omega (arith, leb-true n most h))
 
-offset-fits : (o : Offset) → offsetInRange o ≡ true → leb (minutesTold o) 2147483647 ≡ true
+offset-fits : (o : Offset) → offsetInRange o ≡ true → leb (encodeMinutes o) 2147483647 ≡ true
 unfolding offsetInRange
 offset-fits offsetIs.Absent h = refl
 offset-fits (offsetIs.Minutes z) h = fits (natAbs z) 840 h (omega arith)
 
-position-fits : (p : Position) → positionInRange p ≡ true → (leb (latitudeTold p) 2147483647 && leb (longitudeTold p) 2147483647) ≡ true
+position-fits : (p : Position) → positionInRange p ≡ true → (leb (encodeLatitude p) 2147483647 && leb (encodeLongitude p) 2147483647) ≡ true
 unfolding positionInRange
 position-fits positionIs.Absent h = refl
 position-fits (positionIs.Degrees lat lon alt) h =

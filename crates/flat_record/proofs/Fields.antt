@@ -1,11 +1,7 @@
 -- The numbers of a field, of whichever kind it is, are those of a field, and give it back.
-use mathlib.Core.Bool.{Bool, true, false, _&&_}
-use mathlib.Core.Path.{_≡_, refl, ap}
-use Prim.Native.Nat.{ℕ}
-use lib.Dec.{eqb, leb}
-use lib.IntN.{ℤ, natAbs}
-use Rattle.choice.specs.Pick.{oneIf}
-use Rattle.choice.proofs.Tests.{both-hold}
+use Rattle.cond.proofs.Kit.{_&&_, _≡_, ap, Bool, eqb, false, leb, natAbs, refl, true, ℕ, ℤ}
+use Rattle.cond.specs.Pick.{oneIf}
+use Rattle.cond.proofs.Tests.{both-hold}
 use Rattle.record.specs.declared.Channel.{Channel}
 use Rattle.record.specs.declared.Channel.the-variants as channelIs
 use Rattle.record.specs.declared.Date.{Date}
@@ -20,14 +16,14 @@ use Rattle.record.specs.declared.Position.{Position}
 use Rattle.record.specs.declared.Position.the-variants as positionIs
 use Rattle.record.specs.Sign.{isNegative}
 use Rattle.record.proofs.Signs.{signed-back}
-use Rattle.forms.specs.Fields.Channel.{channelChoice, channelTold}
-use Rattle.forms.specs.Fields.Date.{dateChoice, dayTold, monthTold, yearTold}
+use Rattle.forms.specs.Fields.Channel.{channelChoice, encodeChannel}
+use Rattle.forms.specs.Fields.Date.{dateChoice, encodeDay, encodeMonth, encodeYear}
 use Rattle.forms.specs.Fields.Flag.{flagChoice}
 use Rattle.forms.specs.Fields.Fraction.{fractionChoice}
-use Rattle.forms.specs.Fields.Offset.{minutesTold, offsetChoice}
-use Rattle.forms.specs.Fields.Position.{altitudeTold, latitudeTold, longitudeTold, positionChoice}
+use Rattle.forms.specs.Fields.Offset.{encodeMinutes, offsetChoice}
+use Rattle.forms.specs.Fields.Position.{encodeAltitude, encodeLatitude, encodeLongitude, positionChoice}
 use Rattle.fields.specs.Signs.{isMinus, isSouth, isWest}
-use Rattle.flat_record.specs.Decode.{channelFrom, dateFrom, fitsIfThere, flagFrom, fractionFrom, kindOf, offsetFrom, positionFrom, signFits, signedFrom}
+use Rattle.flat_record.specs.Decode.{channelIn, dateIn, fitsIfThere, flagIn, fractionIn, kindOf, offsetIn, positionIn, signFits, signedIn}
 use Rattle.flat_record.specs.Encode.{dayAlone, fractionValue}
 
 -- a field's number of a kind, and the field
@@ -36,24 +32,24 @@ pub record Fits {A : Type 0} (n most : ℕ) (found field : A) : Type 0 where
   pub known : leb n most ≡ true
   pub same : found ≡ field
 
-pub date-back : (d : Date) → Fits (dateChoice d) 2 (dateFrom (kindOf (dateChoice d)) (yearTold d) (monthTold d) (dayTold d) (dayAlone d)) d
+pub date-back : (d : Date) → Fits (dateChoice d) 2 (dateIn (kindOf (dateChoice d)) (encodeYear d) (encodeMonth d) (encodeDay d) (dayAlone d)) d
 unfolding kindOf
 date-back dateIs.Absent = record { known = refl; same = refl }
 date-back (dateIs.Full y m d) = record { known = refl; same = refl }
 date-back (dateIs.DayOfYear n) = record { known = refl; same = refl }
 
-pub fraction-back : (f : Fraction) → Fits (fractionChoice f) 2 (fractionFrom (kindOf (fractionChoice f)) (fractionValue f)) f
+pub fraction-back : (f : Fraction) → Fits (fractionChoice f) 2 (fractionIn (kindOf (fractionChoice f)) (fractionValue f)) f
 unfolding kindOf
 fraction-back fractionIs.Absent = record { known = refl; same = refl }
 fraction-back (fractionIs.Thousandths n) = record { known = refl; same = refl }
 fraction-back (fractionIs.TenMillionths n) = record { known = refl; same = refl }
 
-pub channel-back : (c : Channel) → Fits (channelChoice c) 1 (channelFrom (kindOf (channelChoice c)) (channelTold c)) c
+pub channel-back : (c : Channel) → Fits (channelChoice c) 1 (channelIn (kindOf (channelChoice c)) (encodeChannel c)) c
 unfolding kindOf
 channel-back channelIs.Absent = record { known = refl; same = refl }
 channel-back (channelIs.Number n) = record { known = refl; same = refl }
 
-pub flag-back : (f : Flag) → Fits (flagChoice f) 2 (flagFrom (kindOf (flagChoice f))) f
+pub flag-back : (f : Flag) → Fits (flagChoice f) 2 (flagIn (kindOf (flagChoice f))) f
 unfolding kindOf
 flag-back flagIs.Absent = record { known = refl; same = refl }
 flag-back flagIs.No = record { known = refl; same = refl }
@@ -65,29 +61,29 @@ sign-one : (b : Bool) → (leb (oneIf b) 1 ≡ true) × (eqb (oneIf b) 1 ≡ b)
 sign-one true = (refl, refl)
 sign-one false = (refl, refl)
 
-signed-is : (z : ℤ) → signedFrom (oneIf (isNegative z)) (natAbs z) ≡ z
+signed-is : (z : ℤ) → signedIn (oneIf (isNegative z)) (natAbs z) ≡ z
 signed-is z = rw (sign-one (isNegative z) .1) (signed-back z)
 
 sign-fits : (z : ℤ) → leb (natAbs z) 2147483647 ≡ true → signFits (oneIf (isNegative z)) (natAbs z) ≡ true
 sign-fits z h = rw (sign-one (isNegative z) .0, h)
 
-pub offset-back : (o : Offset) → leb (minutesTold o) 2147483647 ≡ true
-    → (fitsIfThere (kindOf (offsetChoice o)) (signFits (oneIf (isMinus o)) (minutesTold o)) ≡ true)
-    × (offsetFrom (kindOf (offsetChoice o)) (signedFrom (oneIf (isMinus o)) (minutesTold o)) ≡ o)
+pub offset-back : (o : Offset) → leb (encodeMinutes o) 2147483647 ≡ true
+    → (fitsIfThere (kindOf (offsetChoice o)) (signFits (oneIf (isMinus o)) (encodeMinutes o)) ≡ true)
+    × (offsetIn (kindOf (offsetChoice o)) (signedIn (oneIf (isMinus o)) (encodeMinutes o)) ≡ o)
 unfolding kindOf
 offset-back offsetIs.Absent h = (refl, refl)
 offset-back (offsetIs.Minutes z) h = (sign-fits z h, ap offsetIs.Minutes (signed-is z))
 
 module _ (p : Position) where
   abbrev Signs : Bool
-  Signs = signFits (oneIf (isSouth p)) (latitudeTold p) && signFits (oneIf (isWest p)) (longitudeTold p)
+  Signs = signFits (oneIf (isSouth p)) (encodeLatitude p) && signFits (oneIf (isWest p)) (encodeLongitude p)
 
   abbrev Found : Position
   Found =
-      positionFrom (kindOf (positionChoice p)) (signedFrom (oneIf (isSouth p)) (latitudeTold p))
-      (signedFrom (oneIf (isWest p)) (longitudeTold p)) (altitudeTold p)
+      positionIn (kindOf (positionChoice p)) (signedIn (oneIf (isSouth p)) (encodeLatitude p))
+      (signedIn (oneIf (isWest p)) (encodeLongitude p)) (encodeAltitude p)
 
-pub position-back : (p : Position) → leb (latitudeTold p) 2147483647 ≡ true → leb (longitudeTold p) 2147483647 ≡ true
+pub position-back : (p : Position) → leb (encodeLatitude p) 2147483647 ≡ true → leb (encodeLongitude p) 2147483647 ≡ true
     → (fitsIfThere (kindOf (positionChoice p)) (Signs p) ≡ true) × (Found p ≡ p)
 unfolding kindOf
 position-back positionIs.Absent h l = (refl, refl)

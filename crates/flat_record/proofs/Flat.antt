@@ -1,15 +1,11 @@
 -- Numbers that are a record's have an offset and a position that fit; the field that is there has its numbers.
-use mathlib.Core.Bool.{true, _&&_}
-use mathlib.Core.List.{List}
-use mathlib.Core.Path.{_≡_}
-use Prim.Native.Nat.{ℕ}
-use lib.IntN.{ℤ}
-use Rattle.choice.proofs.Tests.{both}
+use Rattle.cond.proofs.Kit.{_&&_, _≡_, List, true, ℕ, ℤ}
+use Rattle.cond.proofs.Tests.{both}
 use Rattle.record.specs.declared.Offset.the-variants as offsetIs
 use Rattle.record.specs.declared.Position.the-variants as positionIs
 use Rattle.flat_record.specs.declared.decode.Kind.{Kind}
 use Rattle.flat_record.specs.declared.decode.Kind.the-variants as kind
-use Rattle.flat_record.specs.Decode.{at, isFlat, kindOf, kindsFit, offsetFits, offsetFrom, positionFits, positionFrom, signFits}
+use Rattle.flat_record.specs.Decode.{at, isFlat, kindOf, kindsFit, offsetFits, offsetIn, positionFits, positionIn, signFits}
 
 pub flat-fits : (ns : List ℕ) → isFlat ns ≡ true → (offsetFits ns ≡ true) × (positionFits ns ≡ true)
 unfolding isFlat
@@ -21,9 +17,9 @@ pub signs-fit : (ns : List ℕ) → kindOf (at ns 21) ≡ kind.First → positio
     → (signFits (at ns 22) (at ns 23) ≡ true) × (signFits (at ns 24) (at ns 25) ≡ true)
 signs-fit ns e h = both (signFits (at ns 22) (at ns 23)) (signFits (at ns 24) (at ns 25)) (rw e at h)
 
-pub offset-there : {k : Kind} {z z′ : ℤ} → k ≡ kind.First → z ≡ z′ → offsetIs.Minutes z ≡ offsetFrom k z′
+pub offset-there : {k : Kind} {z z′ : ℤ} → k ≡ kind.First → z ≡ z′ → offsetIs.Minutes z ≡ offsetIn k z′
 offset-there e q = rw (e, q)
 
 pub position-there : {k : Kind} {lat lat′ lon lon′ : ℤ} {alt : ℕ} → k ≡ kind.First → lat ≡ lat′ → lon ≡ lon′
-    → positionIs.Degrees lat lon alt ≡ positionFrom k lat′ lon′ alt
+    → positionIs.Degrees lat lon alt ≡ positionIn k lat′ lon′ alt
 position-there e p q = rw (e, p, q)

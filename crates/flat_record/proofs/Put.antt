@@ -1,10 +1,5 @@
 -- Numbers stored in two halves are all the numbers of a record, at the head of the buffer.
-use mathlib.Core.List.{List}
-use mathlib.Core.Path.{_≡_, refl}
-use Prim.Native.Nat.{ℕ, _≤_, _<_}
-use borrow.Author.Tests.{le-leb, lt-leb}
-use lib.ListN.{length}
-use lib.Seq.{sets, sets-eq}
+use Rattle.cond.proofs.Kit.{_<_, _≡_, _≤_, le-leb, length, List, lt-leb, refl, sets, sets-eq, ℕ}
 use Rattle.record.specs.declared.Record.{Record}
 use Rattle.record.specs.declared.answer.Writing.the-variants as writing
 use Rattle.record.specs.declared.refusal.Refusal.the-variants as refusal

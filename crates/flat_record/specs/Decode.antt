@@ -5,7 +5,7 @@ use Prim.Native.Nat.{ℕ}
 use lib.Dec.{eqb, leb}
 use lib.IntN.{ℤ}
 use lib.ListN.{length, getD}
-use Rattle.choice.specs.Pick.{pick}
+use Rattle.cond.specs.Pick.{pick}
 use Rattle.record.specs.declared.Channel.{Channel}
 use Rattle.record.specs.declared.Channel.the-variants as channelIs
 use Rattle.record.specs.declared.Date.{Date}
@@ -37,54 +37,54 @@ at ns i = getD ns i 0
 
 -- the fields, each of its kind and its numbers; a kind that is unknown is refused below, before any of them
 
-abbrev pub dateFrom : Kind → ℕ → ℕ → ℕ → ℕ → Date
-dateFrom kind.Absent y m d n = dateIs.Absent
-dateFrom kind.First y m d n = dateIs.Full y m d
-dateFrom kind.Second y m d n = dateIs.DayOfYear n
-dateFrom kind.Unknown y m d n = dateIs.Absent
+abbrev pub dateIn : Kind → ℕ → ℕ → ℕ → ℕ → Date
+dateIn kind.Absent y m d n = dateIs.Absent
+dateIn kind.First y m d n = dateIs.Full y m d
+dateIn kind.Second y m d n = dateIs.DayOfYear n
+dateIn kind.Unknown y m d n = dateIs.Absent
 
 abbrev pub dateAt : List ℕ → Date
-dateAt ns = dateFrom (kindOf (at ns 3)) (at ns 4) (at ns 5) (at ns 6) (at ns 7)
+dateAt ns = dateIn (kindOf (at ns 3)) (at ns 4) (at ns 5) (at ns 6) (at ns 7)
 
-abbrev pub fractionFrom : Kind → ℕ → Fraction
-fractionFrom kind.Absent n = fractionIs.Absent
-fractionFrom kind.First n = fractionIs.Thousandths n
-fractionFrom kind.Second n = fractionIs.TenMillionths n
-fractionFrom kind.Unknown n = fractionIs.Absent
+abbrev pub fractionIn : Kind → ℕ → Fraction
+fractionIn kind.Absent n = fractionIs.Absent
+fractionIn kind.First n = fractionIs.Thousandths n
+fractionIn kind.Second n = fractionIs.TenMillionths n
+fractionIn kind.Unknown n = fractionIs.Absent
 
-abbrev pub channelFrom : Kind → ℕ → Channel
-channelFrom kind.Absent n = channelIs.Absent
-channelFrom kind.First n = channelIs.Number n
-channelFrom kind.Second n = channelIs.Absent
-channelFrom kind.Unknown n = channelIs.Absent
+abbrev pub channelIn : Kind → ℕ → Channel
+channelIn kind.Absent n = channelIs.Absent
+channelIn kind.First n = channelIs.Number n
+channelIn kind.Second n = channelIs.Absent
+channelIn kind.Unknown n = channelIs.Absent
 
-abbrev pub flagFrom : Kind → Flag
-flagFrom kind.Absent = flagIs.Absent
-flagFrom kind.First = flagIs.No
-flagFrom kind.Second = flagIs.Yes
-flagFrom kind.Unknown = flagIs.Absent
+abbrev pub flagIn : Kind → Flag
+flagIn kind.Absent = flagIs.Absent
+flagIn kind.First = flagIs.No
+flagIn kind.Second = flagIs.Yes
+flagIn kind.Unknown = flagIs.Absent
 
 -- a sign (1 for negative) and a magnitude
-abbrev pub signedFrom : ℕ → ℕ → ℤ
-signedFrom s m = signed (eqb s 1) m
+abbrev pub signedIn : ℕ → ℕ → ℤ
+signedIn s m = signed (eqb s 1) m
 
-abbrev pub offsetFrom : Kind → ℤ → Offset
-offsetFrom kind.Absent z = offsetIs.Absent
-offsetFrom kind.First z = offsetIs.Minutes z
-offsetFrom kind.Second z = offsetIs.Absent
-offsetFrom kind.Unknown z = offsetIs.Absent
+abbrev pub offsetIn : Kind → ℤ → Offset
+offsetIn kind.Absent z = offsetIs.Absent
+offsetIn kind.First z = offsetIs.Minutes z
+offsetIn kind.Second z = offsetIs.Absent
+offsetIn kind.Unknown z = offsetIs.Absent
 
 abbrev pub offsetAt : List ℕ → Offset
-offsetAt ns = offsetFrom (kindOf (at ns 18)) (signedFrom (at ns 19) (at ns 20))
+offsetAt ns = offsetIn (kindOf (at ns 18)) (signedIn (at ns 19) (at ns 20))
 
-abbrev pub positionFrom : Kind → ℤ → ℤ → ℕ → Position
-positionFrom kind.Absent lat lon alt = positionIs.Absent
-positionFrom kind.First lat lon alt = positionIs.Degrees lat lon alt
-positionFrom kind.Second lat lon alt = positionIs.Absent
-positionFrom kind.Unknown lat lon alt = positionIs.Absent
+abbrev pub positionIn : Kind → ℤ → ℤ → ℕ → Position
+positionIn kind.Absent lat lon alt = positionIs.Absent
+positionIn kind.First lat lon alt = positionIs.Degrees lat lon alt
+positionIn kind.Second lat lon alt = positionIs.Absent
+positionIn kind.Unknown lat lon alt = positionIs.Absent
 
 abbrev pub positionAt : List ℕ → Position
-positionAt ns = positionFrom (kindOf (at ns 21)) (signedFrom (at ns 22) (at ns 23)) (signedFrom (at ns 24) (at ns 25)) (at ns 26)
+positionAt ns = positionIn (kindOf (at ns 21)) (signedIn (at ns 22) (at ns 23)) (signedIn (at ns 24) (at ns 25)) (at ns 26)
 
 -- "A kind that is none of these, a sign that is not 0 or 1, or a magnitude that does not fit an i32" where one of these is false
 
@@ -122,18 +122,18 @@ recordAt ns =
       minute = at ns 1;
       second = at ns 2;
       date = dateAt ns;
-      fraction = fractionFrom (kindOf (at ns 8)) (at ns 9);
-      channel = channelFrom (kindOf (at ns 10)) (at ns 11);
-      sync = flagFrom (kindOf (at ns 12));
-      fix = flagFrom (kindOf (at ns 13));
-      utc = flagFrom (kindOf (at ns 14));
-      summer = flagFrom (kindOf (at ns 15));
-      change = flagFrom (kindOf (at ns 16));
-      leap = flagFrom (kindOf (at ns 17));
+      fraction = fractionIn (kindOf (at ns 8)) (at ns 9);
+      channel = channelIn (kindOf (at ns 10)) (at ns 11);
+      sync = flagIn (kindOf (at ns 12));
+      fix = flagIn (kindOf (at ns 13));
+      utc = flagIn (kindOf (at ns 14));
+      summer = flagIn (kindOf (at ns 15));
+      change = flagIn (kindOf (at ns 16));
+      leap = flagIn (kindOf (at ns 17));
       offset = offsetAt ns;
       position = positionAt ns;
-      dsp = flagFrom (kindOf (at ns 27));
-      lsp = flagFrom (kindOf (at ns 28));
+      dsp = flagIn (kindOf (at ns 27));
+      lsp = flagIn (kindOf (at ns 28));
     }
 
 -- "is refused as a bad record (7)", and so is any other number of numbers

@@ -4,7 +4,7 @@ use mathlib.Core.Path.{_≡_}
 use Prim.Native.Nat.{ℕ}
 use lib.Dec.{leb}
 use lib.ListN.{length}
-use Rattle.choice.specs.Pick.{oneIf, pick}
+use Rattle.cond.specs.Pick.{oneIf, pick}
 use Rattle.record.specs.declared.Date.{Date}
 use Rattle.record.specs.declared.Date.the-variants as dateIs
 use Rattle.record.specs.declared.Fraction.{Fraction}
@@ -13,12 +13,12 @@ use Rattle.record.specs.declared.Record.{Record}
 use Rattle.record.specs.declared.answer.Writing.{Writing}
 use Rattle.record.specs.declared.answer.Writing.the-variants as writing
 use Rattle.record.specs.declared.refusal.Refusal.the-variants as refusal
-use Rattle.forms.specs.Fields.Channel.{channelChoice, channelTold}
-use Rattle.forms.specs.Fields.Date.{dateChoice, dayTold, monthTold, yearTold}
+use Rattle.forms.specs.Fields.Channel.{channelChoice, encodeChannel}
+use Rattle.forms.specs.Fields.Date.{dateChoice, encodeDay, encodeMonth, encodeYear}
 use Rattle.forms.specs.Fields.Flag.{flagChoice}
 use Rattle.forms.specs.Fields.Fraction.{fractionChoice}
-use Rattle.forms.specs.Fields.Offset.{minutesTold, offsetChoice}
-use Rattle.forms.specs.Fields.Position.{altitudeTold, latitudeTold, longitudeTold, positionChoice}
+use Rattle.forms.specs.Fields.Offset.{encodeMinutes, offsetChoice}
+use Rattle.forms.specs.Fields.Position.{encodeAltitude, encodeLatitude, encodeLongitude, positionChoice}
 use Rattle.forms.specs.Form.{leftOf}
 use Rattle.fields.specs.Signs.{isMinus, isSouth, isWest}
 
@@ -38,21 +38,21 @@ fractionValue fractionIs.Absent = 0
 fractionValue (fractionIs.Thousandths n) = n
 fractionValue (fractionIs.TenMillionths n) = n
 
--- the numbers of a record in the order in which they stand in memory; a field's kind is the number of its layout in the block
+-- the numbers of a record in the order in which they stand in memory; a field's kind is the number of its variant in the block
 
 unfoldable pub headOf : Record → List ℕ
 headOf r =
     r .hour ∷ r .minute ∷ r .second
-    ∷ dateChoice (r .date) ∷ yearTold (r .date) ∷ monthTold (r .date) ∷ dayTold (r .date) ∷ dayAlone (r .date)
-    ∷ fractionChoice (r .fraction) ∷ fractionValue (r .fraction) ∷ channelChoice (r .channel) ∷ channelTold (r .channel) ∷ []
+    ∷ dateChoice (r .date) ∷ encodeYear (r .date) ∷ encodeMonth (r .date) ∷ encodeDay (r .date) ∷ dayAlone (r .date)
+    ∷ fractionChoice (r .fraction) ∷ fractionValue (r .fraction) ∷ channelChoice (r .channel) ∷ encodeChannel (r .channel) ∷ []
 
 unfoldable pub tailOf : Record → List ℕ
 tailOf r =
     flagChoice (r .sync) ∷ flagChoice (r .fix) ∷ flagChoice (r .utc)
     ∷ flagChoice (r .summer) ∷ flagChoice (r .change) ∷ flagChoice (r .leap)
-    ∷ offsetChoice (r .offset) ∷ oneIf (isMinus (r .offset)) ∷ minutesTold (r .offset)
-    ∷ positionChoice (r .position) ∷ oneIf (isSouth (r .position)) ∷ latitudeTold (r .position)
-    ∷ oneIf (isWest (r .position)) ∷ longitudeTold (r .position) ∷ altitudeTold (r .position)
+    ∷ offsetChoice (r .offset) ∷ oneIf (isMinus (r .offset)) ∷ encodeMinutes (r .offset)
+    ∷ positionChoice (r .position) ∷ oneIf (isSouth (r .position)) ∷ encodeLatitude (r .position)
+    ∷ oneIf (isWest (r .position)) ∷ encodeLongitude (r .position) ∷ encodeAltitude (r .position)
     ∷ flagChoice (r .dsp) ∷ flagChoice (r .lsp) ∷ []
 
 abbrev pub numbersOf : Record → List ℕ

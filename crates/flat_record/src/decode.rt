@@ -2,8 +2,8 @@
 ghost use mathlib.Core.Path.{_≡_};
 ghost use mathlib.Core.Bool.{true};
 ghost use lib.ListN.{length};
-ghost use Rattle.flat_record.specs.Decode.{channelFrom, dateAt, flagFrom, fractionFrom, isFlat, kindOf};
-ghost use Rattle.flat_record.specs.Decode.{offsetAt, offsetFits, positionAt, positionFits, recordAt, recordOf, signFits, signedFrom};
+ghost use Rattle.flat_record.specs.Decode.{channelIn, dateAt, flagIn, fractionIn, isFlat, kindOf};
+ghost use Rattle.flat_record.specs.Decode.{offsetAt, offsetFits, positionAt, positionFits, recordAt, recordOf, signFits, signedIn};
 ghost use Rattle.flat_record.specs.Encode.{size};
 use crate::SIZE;
 use record::Channel;
@@ -53,7 +53,7 @@ fn date_at(n: &[u32]) -> Date
 }
 
 fn fraction_from(kind: u32, value: u32) -> Fraction
-    ensures { λ r. ⌜ r ≡ fractionFrom (kindOf kind) value ⌝ }
+    ensures { λ r. ⌜ r ≡ fractionIn (kindOf kind) value ⌝ }
 {
     match kind_of(kind) {
         Kind::Absent => Fraction::Absent,
@@ -64,7 +64,7 @@ fn fraction_from(kind: u32, value: u32) -> Fraction
 }
 
 fn channel_from(kind: u32, number: u32) -> Channel
-    ensures { λ r. ⌜ r ≡ channelFrom (kindOf kind) number ⌝ }
+    ensures { λ r. ⌜ r ≡ channelIn (kindOf kind) number ⌝ }
 {
     match kind_of(kind) {
         Kind::Absent => Channel::Absent,
@@ -75,7 +75,7 @@ fn channel_from(kind: u32, number: u32) -> Channel
 }
 
 fn flag_from(kind: u32) -> Flag
-    ensures { λ r. ⌜ r ≡ flagFrom (kindOf kind) ⌝ }
+    ensures { λ r. ⌜ r ≡ flagIn (kindOf kind) ⌝ }
 {
     match kind_of(kind) {
         Kind::Absent => Flag::Absent,
@@ -94,7 +94,7 @@ fn sign_fits(sign: u32, magnitude: u32) -> bool
 // A minus on zero is dropped.
 fn signed_from(sign: u32, magnitude: u32) -> i32
     requires { ⌜ signFits sign magnitude ≡ true ⌝ }
-    ensures { λ r. ⌜ r ≡ signedFrom sign magnitude ⌝ }
+    ensures { λ r. ⌜ r ≡ signedIn sign magnitude ⌝ }
 {
     signed_number(sign == 1, magnitude)
 }

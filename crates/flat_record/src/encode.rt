@@ -3,7 +3,7 @@ ghost use mathlib.Core.Path.{_≡_};
 ghost use Prim.Native.Nat.{_+_, _≤_};
 ghost use lib.ListN.{length};
 ghost use lib.Seq.{sets};
-ghost use Rattle.choice.specs.Pick.{oneIf};
+ghost use Rattle.cond.specs.Pick.{oneIf};
 ghost use Rattle.forms.specs.Fields.Channel.{channelChoice};
 ghost use Rattle.forms.specs.Fields.Date.{dateChoice};
 ghost use Rattle.forms.specs.Fields.Flag.{flagChoice};

@@ -1,4 +1,4 @@
-// A record as a row of 29 numbers of 32 bits, for callers that share nothing but memory. The order:
+// A record as 29 numbers of 32 bits, for callers that share nothing but memory. The order:
 // hour, minute, second; date (0 absent, 1 full, 2 day of year), year, month, day, day of year;
 // fraction (0 absent, 1 thousandths, 2 ten-millionths), its value; channel (0 absent, 1 there), its number;
 // sync, fix, utc, summer, change, leap (0 absent, 1 no, 2 yes); offset (0 absent, 1 there), negative (0, 1), minutes;

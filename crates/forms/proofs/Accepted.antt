@@ -1,21 +1,14 @@
 -- What an accepted string passed.
-use mathlib.Core.Path.{_≡_, refl}
-use mathlib.Core.Bool.{Bool, true, false}
-use mathlib.Core.List.{List}
-use Prim.Native.Nat.{ℕ}
-use native.Mathlib.Omega.{arith}
-use borrow.Author.Tests.{eq-eqb, eqb-true}
-use lib.Dec.{eqb}
-use lib.ListN.{length}
-use Rattle.choice.specs.Pick.{pick}
+use Rattle.cond.proofs.Kit.{_≡_, arith, Bool, eq-eqb, eqb, eqb-true, false, length, List, refl, true, ℕ}
+use Rattle.cond.specs.Pick.{pick}
 use Rattle.record.specs.declared.Record.{Record}
 use Rattle.record.specs.declared.answer.Reading.{Reading}
 use Rattle.record.specs.declared.answer.Reading.the-variants as reading
 use Rattle.record.specs.declared.refusal.Refusal.{Refusal}
 use Rattle.forms.specs.Checksum.{checksumsHold}
-use Rattle.forms.specs.Form.{Form, carries, judged, ranges, readBy, readRow, ties, valuesBy}
+use Rattle.forms.specs.Form.{Form, carries, validated, ranges, readBy, readLayout, consistent, valuesBy}
 use Rattle.forms.specs.Places.{shape}
-use Rattle.forms.specs.Spelled.{recordFrom}
+use Rattle.forms.specs.Decode.{decode}
 
 pub refused-read : (x : Refusal) (r : Record) → reading.Refused x ≡ reading.Read r → ⊥
 refused-read x r h = let z : _≡_ {A = ℕ} 0 1 = cc in omega arith
@@ -30,31 +23,31 @@ passed false a x r h = absurd (refused-read x r h)
 
 pub record Accepted (d : Form) (s : List ℕ) (r : Record) : Type 0 where
   pub long : length s ≡ d .size
-  pub shaped : shape (d .row) 0 s ≡ true
-  pub summed : checksumsHold (d .checksums) s (valuesBy d s) ≡ true
+  pub shaped : shape (d .layout) 0 s ≡ true
+  pub checked : checksumsHold (d .checksums) s (valuesBy d s) ≡ true
   pub ranged : ranges (carries d) (valuesBy d s) ≡ true
-  pub tied : ties (carries d) (valuesBy d s) ≡ true
-  pub spelled : recordFrom (carries d) (valuesBy d s) ≡ r
+  pub isConsistent : consistent (carries d) (valuesBy d s) ≡ true
+  pub spelled : decode (carries d) (valuesBy d s) ≡ r
 
 pub accepted : (d : Form) (s : List ℕ) (r : Record) → readBy d s ≡ reading.Read r → Accepted d s r
-unfolding readBy readRow judged
+unfolding readBy readLayout validated
 accepted d s r h =
     let a = passed (eqb (length s) (d .size)) _ _ r h in
-    let b = passed (shape (d .row) 0 s) _ _ r (a .1) in
+    let b = passed (shape (d .layout) 0 s) _ _ r (a .1) in
     let c = passed (checksumsHold (d .checksums) s (valuesBy d s)) _ _ r (b .1) in
     let e = passed (ranges (carries d) (valuesBy d s)) _ _ r (c .1) in
-    let f = passed (ties (carries d) (valuesBy d s)) _ _ r (e .1) in
+    let f = passed (consistent (carries d) (valuesBy d s)) _ _ r (e .1) in
     record {
       long = eqb-true _ _ (a .0);
       shaped = b .0;
-      summed = c .0;
+      checked = c .0;
       ranged = e .0;
-      tied = f .0;
+      isConsistent = f .0;
       spelled = read-same _ _ (f .1);
     }
 
--- a string of the right length, shape and sum is judged by its values
-pub read-judged : (d : Form) (s : List ℕ) → length s ≡ d .size → shape (d .row) 0 s ≡ true → checksumsHold (d .checksums) s (valuesBy d s) ≡ true
-    → readBy d s ≡ judged (carries d) (valuesBy d s)
-unfolding readBy readRow
-read-judged d s l h q = simp (eq-eqb (length s) (d .size) l, h, q)
+-- a string of the right length, shape and sum is validated by its values
+pub read-validated : (d : Form) (s : List ℕ) → length s ≡ d .size → shape (d .layout) 0 s ≡ true → checksumsHold (d .checksums) s (valuesBy d s) ≡ true
+    → readBy d s ≡ validated (carries d) (valuesBy d s)
+unfolding readBy readLayout
+read-validated d s l h q = simp (eq-eqb (length s) (d .size) l, h, q)

@@ -1,10 +1,6 @@
 -- What a list of tests says: each of them, and all of them where each holds.
-use mathlib.Core.Path.{_≡_, refl}
-use mathlib.Core.Bool.{Bool, true}
-use mathlib.Core.List.{List, [], _∷_}
-use Prim.Native.Nat.{ℕ, zero, suc}
-use lib.ListN.{getD}
-use Rattle.choice.proofs.Tests.{both, both-hold}
+use Rattle.cond.proofs.Kit.{[], _∷_, _≡_, Bool, getD, List, refl, suc, true, zero, ℕ}
+use Rattle.cond.proofs.Tests.{both, both-hold}
 use Rattle.forms.specs.All.{all}
 
 -- the first test, and the others

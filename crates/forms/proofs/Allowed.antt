@@ -1,19 +1,12 @@
--- Which bytes a row can hold: a test of every byte that its places allow holds of every string that it writes.
-use mathlib.Core.Path.{_≡_, refl}
-use mathlib.Core.Bool.{Bool, true, false, _&&_}
-use mathlib.Core.List.{List, [], _∷_, _++_}
-use Prim.Native.Nat.{ℕ, zero, suc, _/_, _%_, _^_, _<_}
-use native.Mathlib.Nat.{mod-lt}
-use native.Mathlib.Omega.{arith}
-use borrow.Author.Tests.{ltb-true, ltb-false}
-use lib.Dec.{eqb, ltb, lit<}
-use lib.ListN.{length, getD, take, drop}
-use Rattle.choice.specs.Pick.{pick}
+-- Which bytes a layout can hold: a test of every byte that its places allow holds of every string that it writes.
+use Rattle.cond.proofs.Kit.{[], _%_, _&&_, _++_, _/_, _<_, _^_, _∷_, _≡_, arith, Bool, drop, eqb, false, getD, length, List, lit<, ltb, ltb-false, ltb-true}
+use Rattle.cond.proofs.Kit.{mod-lt, refl, suc, take, true, zero, ℕ}
+use Rattle.cond.specs.Pick.{pick}
 use Rattle.spelling.specs.Bytes.{Group, allAre, bitsOf, blanked, decimal, digit, digitOf, gap, groupsOf, hexOf, spelledIn}
-use Rattle.forms.specs.Places.{Place, Row, bytesOf, fixed, part, placed}
+use Rattle.forms.specs.Places.{Place, Layout, bytesOf, fixed, part, placed}
 use Rattle.forms.specs.Slots.{Values}
 use Rattle.spelling.specs.Spelling.{bits, digits, grouped, hex, padded, word, words}
-use Rattle.choice.proofs.Tests.{both}
+use Rattle.cond.proofs.Tests.{both}
 
 -- the test holds of all numbers below n
 unfoldable pub upTo : ℕ → (ℕ → Bool) → Bool
@@ -39,9 +32,9 @@ allows t (part (grouped b gs) f) = (t 0 && t 1) && allGroups t gs
 allows t (part (words w ws) f) = allWords t ws
 allows t (part (word m bs) f) = allAre t bs
 
-unfoldable pub allowsRow : (ℕ → Bool) → Row → Bool
-allowsRow t [] = true
-allowsRow t (p ∷ ps) = allows t p && allowsRow t ps
+unfoldable pub allowsLayout : (ℕ → Bool) → Layout → Bool
+allowsLayout t [] = true
+allowsLayout t (p ∷ ps) = allows t p && allowsLayout t ps
 
 below : (n : ℕ) (t : ℕ → Bool) → upTo n t ≡ true → (d : ℕ) → d < n → t d ≡ true
 unfolding upTo
@@ -120,12 +113,12 @@ module _ (t : ℕ → Bool) where
   placed-all (part (words w ws) f) v h = word-all ws (v f) h
   placed-all (part (word m bs) f) v h = h
 
-  pub row-all : (ps : Row) (v : Values) → allowsRow t ps ≡ true → allAre t (bytesOf ps v) ≡ true
-  unfolding bytesOf allowsRow allAre
-  row-all [] v h = refl
-  row-all (p ∷ ps) v h =
-      let e = both (allows t p) (allowsRow t ps) h in
-      append-all (placed p v) (bytesOf ps v) (placed-all p v (e .0)) (row-all ps v (e .1))
+  pub layout-all : (ps : Layout) (v : Values) → allowsLayout t ps ≡ true → allAre t (bytesOf ps v) ≡ true
+  unfolding bytesOf allowsLayout allAre
+  layout-all [] v h = refl
+  layout-all (p ∷ ps) v h =
+      let e = both (allows t p) (allowsLayout t ps) h in
+      append-all (placed p v) (bytesOf ps v) (placed-all p v (e .0)) (layout-all ps v (e .1))
 
   pub all-take : (n : ℕ) (s : List ℕ) → allAre t s ≡ true → allAre t (take n s) ≡ true
   unfolding allAre

@@ -1,67 +1,61 @@
--- Rows one behind the other: what the parts pass, the whole passes.
-use mathlib.Core.Path.{_≡_, refl, sym, _∙_, ap}
-use mathlib.Core.Bool.{Bool, true, false, not, _&&_, _||_, and-assoc, or-assoc}
-use mathlib.Core.List.{List, [], _∷_, _++_}
-use Prim.Native.Nat.{ℕ, _+_, _≤_}
-use native.Mathlib.Nat.{zero-add}
-use native.Mathlib.Omega.{arith}
-use lib.ListN.{take, drop}
-use Rattle.choice.specs.Pick.{pick}
-use Rattle.choice.proofs.Tests.{both, both-hold, or-right}
+-- Layouts one behind the other: what the parts pass, the whole passes.
+use Rattle.cond.proofs.Kit.{[], _&&_, _++_, _+_, _||_, _∙_, _∷_, _≡_, _≤_, and-assoc, ap, arith, Bool, drop, false, List, not, or-assoc, refl, sym, take, true, zero-add, ℕ}
+use Rattle.cond.specs.Pick.{pick}
+use Rattle.cond.proofs.Tests.{both, both-hold, or-right}
 use Rattle.forms.specs.Checksum.{Checksum}
-use Rattle.forms.specs.Places.{Place, Row, allWorded, fits, fixed, has, isOf, part, rowWidth, shape, width, worded}
+use Rattle.forms.specs.Places.{Place, Layout, hasWords, fits, fixed, has, isOf, part, layoutWidth, shape, width, hasWord}
 use Rattle.forms.specs.Slots.{Slot, Values}
-use Rattle.forms.proofs.Allowed.{allows, allowsRow}
-use Rattle.forms.proofs.RowLimits.{limitOf, placeLimit}
-use Rattle.forms.proofs.Rows.{apart, apartRow, soundPlace, soundRow}
+use Rattle.forms.proofs.Allowed.{allows, allowsLayout}
+use Rattle.forms.proofs.LayoutLimits.{limitOf, placeLimit}
+use Rattle.forms.proofs.Layouts.{apart, apartLayout, soundPlace, soundLayout}
 use Rattle.forms.proofs.Slots.{slot-self}
-use Rattle.forms.proofs.Sound.{wide, wideRow}
+use Rattle.forms.proofs.Sound.{wide, wideLayout}
 
-pub width-append : (a b : Row) → rowWidth (a ++ b) ≡ rowWidth a + rowWidth b
-unfolding rowWidth
-width-append [] b = sym (zero-add (rowWidth b))
+pub width-append : (a b : Layout) → layoutWidth (a ++ b) ≡ layoutWidth a + layoutWidth b
+unfolding layoutWidth
+width-append [] b = sym (zero-add (layoutWidth b))
 width-append (p ∷ a) b = omega (arith, width-append a b)
 
-pub has-append : (a b : Row) (f : Slot) → has (a ++ b) f ≡ (has a f || has b f)
+pub has-append : (a b : Layout) (f : Slot) → has (a ++ b) f ≡ (has a f || has b f)
 unfolding has
 has-append [] b f = refl
 has-append (p ∷ a) b f = ap (λ (t : Bool). isOf f p || t) (has-append a b f) ∙ sym (or-assoc (isOf f p) (has a f) (has b f))
 
-pub worded-append : (a b : Row) (v : Values) → allWorded (a ++ b) v ≡ (allWorded a v && allWorded b v)
-unfolding allWorded
-worded-append [] b v = refl
-worded-append (p ∷ a) b v = ap (λ (t : Bool). worded p v && t) (worded-append a b v) ∙ sym (and-assoc (worded p v) (allWorded a v) (allWorded b v))
+pub has-words-append : (a b : Layout) (v : Values) → hasWords (a ++ b) v ≡ (hasWords a v && hasWords b v)
+unfolding hasWords
+has-words-append [] b v = refl
+has-words-append (p ∷ a) b v = ap (λ (t : Bool). hasWord p v && t) (has-words-append a b v) ∙ sym (and-assoc (hasWord p v) (hasWords a v) (hasWords b v))
 
-pub shape-append : (a b : Row) (k : ℕ) (s : List ℕ) → shape (a ++ b) k s ≡ (shape a k s && shape b (rowWidth a + k) s)
-unfolding shape rowWidth
+pub shape-append : (a b : Layout) (k : ℕ) (s : List ℕ) → shape (a ++ b) k s ≡ (shape a k s && shape b (layoutWidth a + k) s)
+unfolding shape layoutWidth
 shape-append [] b k s = ap (λ (n : ℕ). shape b n s) (sym (zero-add k))
 shape-append (p ∷ a) b k s =
-    let e : rowWidth a + (width p + k) ≡ width p + rowWidth a + k = omega arith in
+    let e : layoutWidth a + (width p + k) ≡ width p + layoutWidth a + k = omega arith in
     ap (λ (t : Bool). fits p (take (width p) (drop k s)) && t) (shape-append a b (width p + k) s ∙ ap (λ (n : ℕ). shape a (width p + k) s && shape b n s) e)
-    ∙ sym (and-assoc (fits p (take (width p) (drop k s))) (shape a (width p + k) s) (shape b (width p + rowWidth a + k) s))
+    ∙ sym (and-assoc (fits p (take (width p) (drop k s))) (shape a (width p + k) s) (shape b (width p + layoutWidth a + k) s))
 
-pub sound-append : (a b : Row) → soundRow a ≡ true → soundRow b ≡ true → soundRow (a ++ b) ≡ true
-unfolding soundRow
+pub sound-append : (a b : Layout) → soundLayout a ≡ true → soundLayout b ≡ true → soundLayout (a ++ b) ≡ true
+unfolding soundLayout
 sound-append [] b h l = l
 sound-append (p ∷ a) b h l =
-    let e = both (soundPlace p) (soundRow a) h in
-    both-hold (soundPlace p) (soundRow (a ++ b)) (e .0) (sound-append a b (e .1) l)
+    let e = both (soundPlace p) (soundLayout a) h in
+    both-hold (soundPlace p) (soundLayout (a ++ b)) (e .0) (sound-append a b (e .1) l)
 
-pub wide-append : (x : List Checksum) (a b : Row) → wideRow x a ≡ true → wideRow x b ≡ true → wideRow x (a ++ b) ≡ true
-unfolding wideRow
+pub wide-append : (x : List Checksum) (a b : Layout) → wideLayout x a ≡ true → wideLayout x b ≡ true → wideLayout x (a ++ b) ≡ true
+unfolding wideLayout
 wide-append x [] b h l = l
 wide-append x (p ∷ a) b h l =
-    let e = both (wide x p) (wideRow x a) h in
-    both-hold (wide x p) (wideRow x (a ++ b)) (e .0) (wide-append x a b (e .1) l)
+    let e = both (wide x p) (wideLayout x a) h in
+    both-hold (wide x p) (wideLayout x (a ++ b)) (e .0) (wide-append x a b (e .1) l)
 
-pub allows-append : (t : ℕ → Bool) (a b : Row) → allowsRow t a ≡ true → allowsRow t b ≡ true → allowsRow t (a ++ b) ≡ true
-unfolding allowsRow
+pub allows-append : (t : ℕ → Bool) (a b : Layout) → allowsLayout t a ≡ true → allowsLayout t b ≡ true → allowsLayout t (a ++ b) ≡ true
+unfolding allowsLayout
 allows-append t [] b h l = l
 allows-append t (p ∷ a) b h l =
-    let e = both (allows t p) (allowsRow t a) h in
-    both-hold (allows t p) (allowsRow t (a ++ b)) (e .0) (allows-append t a b (e .1) l)
+    let e = both (allows t p) (allowsLayout t a) h in
+    both-hold (allows t p) (allowsLayout t (a ++ b)) (e .0) (allows-append t a b (e .1) l)
 
-pub limit-append : (a b : Row) (f : Slot) (n : ℕ) → limitOf a f ≤ n → limitOf b f ≤ n → limitOf (a ++ b) f ≤ n
+pub limit-append : (a b : Layout) (f : Slot) (n : ℕ) → limitOf a f ≤ n → limitOf b f ≤ n → limitOf (a ++ b) f ≤ n
 unfolding limitOf
 limit-append [] b f n h l = l
 limit-append (p ∷ a) b f n h l = go (isOf f p) h (λ i. limit-append a b f n i l)
@@ -76,15 +70,15 @@ neither : (x y : Bool) → not x ≡ true → y ≡ false → not (x || y) ≡ t
 neither true y h e = h
 neither false y h e = simp e
 
-place-apart : (p : Place) (a b : Row) → apart p a ≡ true → ((f : Slot) → has (p ∷ a) f ≡ true → has b f ≡ false) → apart p (a ++ b) ≡ true
+place-apart : (p : Place) (a b : Layout) → apart p a ≡ true → ((f : Slot) → has (p ∷ a) f ≡ true → has b f ≡ false) → apart p (a ++ b) ≡ true
 unfolding has
 place-apart (fixed bs) a b h d = refl
 place-apart (part c f) a b h d = ap not (has-append a b f) ∙ neither (has a f) (has b f) h (d f (simp (slot-self f)))
 
-pub apart-append : (a b : Row) → apartRow a ≡ true → apartRow b ≡ true → ((f : Slot) → has a f ≡ true → has b f ≡ false) → apartRow (a ++ b) ≡ true
-unfolding apartRow
+pub apart-append : (a b : Layout) → apartLayout a ≡ true → apartLayout b ≡ true → ((f : Slot) → has a f ≡ true → has b f ≡ false) → apartLayout (a ++ b) ≡ true
+unfolding apartLayout
 apart-append [] b h l d = l
 apart-append (p ∷ a) b h l d =
-    let e = both (apart p a) (apartRow a) h in
-    both-hold (apart p (a ++ b)) (apartRow (a ++ b)) (place-apart p a b (e .0) d)
+    let e = both (apart p a) (apartLayout a) h in
+    both-hold (apart p (a ++ b)) (apartLayout (a ++ b)) (place-apart p a b (e .0) d)
     (apart-append a b (e .1) l (λ f i. d f (unfold has in or-right (isOf f p) (has a f) i)))

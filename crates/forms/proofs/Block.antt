@@ -1,32 +1,23 @@
 -- Demand 2 for an edition of the block: it keeps every field, and takes every good record.
-use mathlib.Core.Path.{_≡_, refl, sym, _∙_, ap}
-use mathlib.Core.Bool.{true, _&&_}
-use mathlib.Core.List.{List, _++_, []}
-use Prim.Native.Nat.{ℕ, _≤_}
-use native.Mathlib.Omega.{arith}
-use borrow.Author.Tests.{eq-eqb, eqb-true, le-leb}
-use lib.Dec.{eqb, leb}
-use lib.ListN.{length, drop}
-use Rattle.choice.specs.Pick.{pick}
-use Rattle.record.specs.Record.{isGood}
+use Rattle.cond.proofs.Kit.{[], _&&_, _++_, _∙_, _≡_, _≤_, ap, arith, drop, eq-eqb, eqb, eqb-true, le-leb, leb, length, List, refl, sym, true, ℕ}
+use Rattle.cond.specs.Pick.{pick}
+use Rattle.record.specs.Record.{isGood, isGood}
 use Rattle.record.specs.declared.Record.{Record}
 use Rattle.record.specs.declared.answer.Reading.the-variants as reading
 use Rattle.record.specs.declared.answer.Writing.the-variants as writing
 use Rattle.record.specs.declared.refusal.Refusal.the-variants as refusal
-use Rattle.record.specs.Record.{isGood}
-use Rattle.forms.specs.Block.{Edition, blockOf, chosenRow, readBlock, rowAt}
+use Rattle.forms.specs.Block.{Edition, blockOf, chosenLayout, readBlock, layoutAt}
 use Rattle.forms.specs.Carries.{carriesOf}
-use Rattle.forms.specs.Demand2.{Keeps}
-use Rattle.forms.specs.Form.{bytesBy, isExpressible, readBy, readRow, writeBy}
+use Rattle.forms.specs.Form.{bytesBy, isExpressible, readBy, readLayout, writeBy}
 use Rattle.forms.specs.Forms.{block, leftAs, readAs, writeAs}
-use Rattle.forms.specs.Kept.{kept}
-use Rattle.forms.specs.Needs.{hasAll}
-use Rattle.forms.specs.Places.{rowWidth}
-use Rattle.forms.specs.Told.{told}
+use Rattle.forms.specs.CarriedPart.{carriedPart}
+use Rattle.forms.specs.Required.{hasCarried}
+use Rattle.forms.specs.Places.{layoutWidth}
+use Rattle.forms.specs.Encode.{encode}
 use Rattle.forms.proofs.Accepted.{accepted, passed}
 use Rattle.forms.proofs.Lines.{everyLine, isChoice}
-use Rattle.forms.proofs.Keeps.{back-written, front-written, left-refused, left-written}
-use Rattle.forms.proofs.Layouts.{choices-at, choicesAt, formOf, isDistinct, nonempty, row-at, row-found}
+use Rattle.forms.proofs.Keeps.{Keeps, back-written, front-written, left-refused, left-written}
+use Rattle.forms.proofs.Variants.{choices-at, choicesAt, formOf, isDistinct, nonempty, layout-at, layout-found}
 use Rattle.forms.proofs.ReadWrite.{Rewritten, read-write}
 use Rattle.forms.proofs.Sound.{SoundForm}
 use Rattle.forms.proofs.Trips.{taken-by}
@@ -34,21 +25,21 @@ use Rattle.forms.proofs.WriteRead.{write-length, write-read}
 
 -- what an edition has to show
 pub record SoundEdition (e : Edition) : Type 0 where
-  -- every choice of layouts makes a sound row
-  pub sound : (cs : List ℕ) → isChoice (e .lines) cs ≡ true → SoundForm (formOf (chosenRow (e .lines) cs))
-  -- no two layouts of a line fit the same bytes, and every line has one
+  -- every choice of variants makes a sound layout
+  pub sound : (cs : List ℕ) → isChoice (e .lines) cs ≡ true → SoundForm (formOf (chosenLayout (e .lines) cs))
+  -- no two variants of a line fit the same bytes, and every line has one
   pub distinct : everyLine isDistinct (e .lines) ≡ true
   pub filled : everyLine nonempty (e .lines) ≡ true
-  -- a record's own choices make a row that takes, keeps and words all of it
+  -- a record's own choices make a layout that takes, keeps and words all of it
   pub chosen : (r : Record) → isChoice (e .lines) (e .choices r) ≡ true
-  pub taken : (r : Record) → hasAll (carriesOf (chosenRow (e .lines) (e .choices r))) r ≡ true
-  pub whole : (r : Record) → kept (carriesOf (chosenRow (e .lines) (e .choices r))) r ≡ r
-  pub expressed : (r : Record) → isGood r ≡ true → isExpressible (chosenRow (e .lines) (e .choices r)) (told r) ≡ true
+  pub taken : (r : Record) → hasCarried (carriesOf (chosenLayout (e .lines) (e .choices r))) r ≡ true
+  pub whole : (r : Record) → carriedPart (carriesOf (chosenLayout (e .lines) (e .choices r))) r ≡ r
+  pub expressed : (r : Record) → isGood r ≡ true → isExpressible (chosenLayout (e .lines) (e .choices r)) (encode r) ≡ true
   pub bounded : (r : Record) → isGood r ≡ true
-      → (e .least ≤ rowWidth (chosenRow (e .lines) (e .choices r))) × (rowWidth (chosenRow (e .lines) (e .choices r)) ≤ e .most)
-  -- a row that does so is made by the record's own choices
-  pub own : (cs : List ℕ) → isChoice (e .lines) cs ≡ true → (r : Record) → isExpressible (chosenRow (e .lines) cs) (told r) ≡ true
-      → hasAll (carriesOf (chosenRow (e .lines) cs)) r ≡ true → kept (carriesOf (chosenRow (e .lines) cs)) r ≡ r → e .choices r ≡ cs
+      → (e .least ≤ layoutWidth (chosenLayout (e .lines) (e .choices r))) × (layoutWidth (chosenLayout (e .lines) (e .choices r)) ≤ e .most)
+  -- a layout that does so is made by the record's own choices
+  pub own : (cs : List ℕ) → isChoice (e .lines) cs ≡ true → (r : Record) → isExpressible (chosenLayout (e .lines) cs) (encode r) ≡ true
+      → hasCarried (carriesOf (chosenLayout (e .lines) cs)) r ≡ true → carriedPart (carriesOf (chosenLayout (e .lines) cs)) r ≡ r → e .choices r ≡ cs
 
 record Again (e : Edition) (s : List ℕ) (r : Record) : Type 0 where
   long : length s ≡ blockOf e r .size
@@ -75,22 +66,22 @@ module _ (e : Edition) (f : SoundEdition e) where
     pub block-written : (n : ℕ) → isGood r ≡ true → blockOf e r .size ≤ n → writeBy (blockOf e r) r n ≡ writing.Written (blockOf e r .size)
     block-written n g l = block-answer n g ∙ simp (le-leb (blockOf e r .size) n l)
 
-    pub block-length : isGood r ≡ true → length (bytesBy (blockOf e r) (told r)) ≡ blockOf e r .size
+    pub block-length : isGood r ≡ true → length (bytesBy (blockOf e r) (encode r)) ≡ blockOf e r .size
     block-length g = write-length (blockOf e r) own-sound r g (unfold blockOf in f .expressed r g)
 
-    -- bytes that the record's own row accepts are read as a block
+    -- bytes that the record's own layout accepts are read as a block
     block-found : (s : List ℕ) (q : Record) → isGood r ≡ true → readBy (blockOf e r) s ≡ reading.Read q → readBlock e s ≡ reading.Read q
     unfolding readBlock readBy blockOf
     block-found s q g h =
-        let row = chosenRow (e .lines) (e .choices r) in
+        let layout = chosenLayout (e .lines) (e .choices r) in
         let a = accepted (blockOf e r) s q h in
-        let b = passed (eqb (length s) (rowWidth row)) _ _ q h in
+        let b = passed (eqb (length s) (layoutWidth layout)) _ _ q h in
         let z = f .bounded r g in
-        let m = row-found (e .lines) (e .choices r) 0 s (f .distinct) (f .chosen r) (a .shaped) (omega (arith, a .long)) in
-        simp (m, le-leb (e .least) (length s) (omega (arith, a .long)), le-leb (length s) (e .most) (omega (arith, a .long)), eq-eqb (rowWidth row) (length s) (sym (a .long)))
+        let m = layout-found (e .lines) (e .choices r) 0 s (f .distinct) (f .chosen r) (a .shaped) (omega (arith, a .long)) in
+        simp (m, le-leb (e .least) (length s) (omega (arith, a .long)), le-leb (length s) (e .most) (omega (arith, a .long)), eq-eqb (layoutWidth layout) (length s) (sym (a .long)))
         (b .1)
 
-  -- what was read as a block is what its record's own row accepts
+  -- what was read as a block is what its record's own layout accepts
   read-again : (s : List ℕ) (r : Record) → readBlock e s ≡ reading.Read r → Again e s r
   unfolding readBlock readBy blockOf
   read-again s r h =
@@ -98,11 +89,11 @@ module _ (e : Edition) (f : SoundEdition e) where
       let cs = choicesAt ls 0 s in
       let o = choices-at ls 0 s (f .filled) in
       let a = passed (leb (e .least) (length s) && leb (length s) (e .most)) _ _ r h in
-      let b = passed (eqb (rowWidth (rowAt ls 0 s)) (length s)) (readRow (rowAt ls 0 s) [] s) _ r (a .1) in
-      let w : length s ≡ rowWidth (chosenRow ls cs) = sym (rw (row-at ls 0 s) at (eqb-true (rowWidth (rowAt ls 0 s)) (length s) (b .0))) in
-      let d : readBy (formOf (chosenRow ls cs)) s ≡ reading.Read r =
-      simp (eq-eqb (length s) (rowWidth (chosenRow ls cs)) w) (rw (row-at ls 0 s) at (b .1)) in
-      let c = read-write (formOf (chosenRow ls cs)) (f .sound cs o) s r d in
+      let b = passed (eqb (layoutWidth (layoutAt ls 0 s)) (length s)) (readLayout (layoutAt ls 0 s) [] s) _ r (a .1) in
+      let w : length s ≡ layoutWidth (chosenLayout ls cs) = sym (rw (layout-at ls 0 s) at (eqb-true (layoutWidth (layoutAt ls 0 s)) (length s) (b .0))) in
+      let d : readBy (formOf (chosenLayout ls cs)) s ≡ reading.Read r =
+      simp (eq-eqb (length s) (layoutWidth (chosenLayout ls cs)) w) (rw (layout-at ls 0 s) at (b .1)) in
+      let c = read-write (formOf (chosenLayout ls cs)) (f .sound cs o) s r d in
       let m = f .own cs o r (c .spellable) (c .complete) (c .nothing-else) in
       record { long = rw m w; rewritten = rw m c }
 
@@ -124,6 +115,7 @@ module _ (e : Edition) (f : SoundEdition e) where
             let w : writeBy (blockOf e r) r (length out) ≡ writing.Written (length s) =
             block-written r (length out) (a .rewritten .good) (omega arith) ∙ ap writing.Written (sym long) in
             (w, left-written (blockOf e r) r out (length s) w ∙ ap (λ b. b ++ drop (length s) out) (a .rewritten .same-bytes));
+        complete = λ s r h. refl;
         alone = λ s r h. refl;
         untouched = λ r. left-refused (blockOf e r) r;
       }

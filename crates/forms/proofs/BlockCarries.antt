@@ -1,22 +1,16 @@
--- What a row chosen for the block carries, by its choices.
-use mathlib.Core.Path.{_≡_, refl, _∙_, ap, subst}
-use mathlib.Core.Bool.{Bool, true, false}
-use mathlib.Core.List.{List, []}
-use Prim.Native.Nat.{ℕ, _<_}
-use Prim.Native.String.{String}
-use lib.Dec.{lit<}
-use lib.ListN.{length, getD}
-use Rattle.choice.specs.Pick.{pick}
-use Rattle.forms.specs.Block.{Line, blockLines, chosenRow, flagLine}
+-- What a layout chosen for the block carries, by its choices.
+use Rattle.cond.proofs.Kit.{[], _<_, _∙_, _≡_, ap, Bool, false, getD, length, List, lit<, refl, String, subst, true, ℕ}
+use Rattle.cond.specs.Pick.{pick}
+use Rattle.forms.specs.Block.{Line, blockLines, chosenLayout, flagLine}
 use Rattle.forms.specs.Carries.{carriesOf}
 use Rattle.forms.specs.Fields.Flag.{isCarried, noFlag, ownLetter}
 use Rattle.forms.specs.Fields.Offset.{inMinutes, isOffset, noOffset}
 use Rattle.forms.specs.Places.{has}
 use Rattle.forms.specs.Slots.{Slot, halfHour, month, notice, offsetHours, ordinal, quality, south, tenMillionth, thousandth, year, zone}
-use Rattle.forms.proofs.BlockRow.{absent, found}
-use Rattle.forms.proofs.Choices.{dateIn, fractionIn, isTold, second-has}
+use Rattle.forms.proofs.BlockLayout.{absent, found}
+use Rattle.forms.proofs.Choices.{dateIn, fractionIn, isPresent, second-has}
 use Rattle.forms.proofs.FlagChoices.{flag-has}
-use Rattle.forms.proofs.Lines.{choice-lt, everyLayout, everyLine, isChoice, onlyIn}
+use Rattle.forms.proofs.Lines.{choice-lt, everyVariant, everyLine, isChoice, onlyIn}
 
 own-carried : (b : Bool) → isCarried (pick b ownLetter noFlag) ≡ b
 own-carried true = refl
@@ -27,30 +21,30 @@ offset-carried true = refl
 offset-carried false = refl
 
 module _ (cs : List ℕ) (o : isChoice blockLines cs ≡ true) where
-  -- what a chosen row carries, by its choices
+  -- what a chosen layout carries, by its choices
   pub record Laid : Type 0 where
-    pub date : carriesOf (chosenRow blockLines cs) .date ≡ dateIn (getD cs 0 0)
-    pub fraction : carriesOf (chosenRow blockLines cs) .fraction ≡ fractionIn (getD cs 2 0)
-    pub channel : carriesOf (chosenRow blockLines cs) .channel ≡ isTold (getD cs 3 0)
-    pub sync : isCarried (carriesOf (chosenRow blockLines cs) .sync) ≡ isTold (getD cs 4 0)
-    pub fix : isCarried (carriesOf (chosenRow blockLines cs) .fix) ≡ isTold (getD cs 5 0)
-    pub utc : isCarried (carriesOf (chosenRow blockLines cs) .utc) ≡ isTold (getD cs 6 0)
-    pub summer : isCarried (carriesOf (chosenRow blockLines cs) .summer) ≡ isTold (getD cs 7 0)
-    pub change : isCarried (carriesOf (chosenRow blockLines cs) .change) ≡ isTold (getD cs 8 0)
-    pub leap : isCarried (carriesOf (chosenRow blockLines cs) .leap) ≡ isTold (getD cs 9 0)
-    pub offset : isOffset (carriesOf (chosenRow blockLines cs) .offset) ≡ isTold (getD cs 10 0)
-    pub position : carriesOf (chosenRow blockLines cs) .position ≡ isTold (getD cs 11 0)
-    pub dsp : isCarried (carriesOf (chosenRow blockLines cs) .dsp) ≡ isTold (getD cs 12 0)
-    pub lsp : isCarried (carriesOf (chosenRow blockLines cs) .lsp) ≡ isTold (getD cs 13 0)
+    pub date : carriesOf (chosenLayout blockLines cs) .date ≡ dateIn (getD cs 0 0)
+    pub fraction : carriesOf (chosenLayout blockLines cs) .fraction ≡ fractionIn (getD cs 2 0)
+    pub channel : carriesOf (chosenLayout blockLines cs) .channel ≡ isPresent (getD cs 3 0)
+    pub sync : isCarried (carriesOf (chosenLayout blockLines cs) .sync) ≡ isPresent (getD cs 4 0)
+    pub fix : isCarried (carriesOf (chosenLayout blockLines cs) .fix) ≡ isPresent (getD cs 5 0)
+    pub utc : isCarried (carriesOf (chosenLayout blockLines cs) .utc) ≡ isPresent (getD cs 6 0)
+    pub summer : isCarried (carriesOf (chosenLayout blockLines cs) .summer) ≡ isPresent (getD cs 7 0)
+    pub change : isCarried (carriesOf (chosenLayout blockLines cs) .change) ≡ isPresent (getD cs 8 0)
+    pub leap : isCarried (carriesOf (chosenLayout blockLines cs) .leap) ≡ isPresent (getD cs 9 0)
+    pub offset : isOffset (carriesOf (chosenLayout blockLines cs) .offset) ≡ isPresent (getD cs 10 0)
+    pub position : carriesOf (chosenLayout blockLines cs) .position ≡ isPresent (getD cs 11 0)
+    pub dsp : isCarried (carriesOf (chosenLayout blockLines cs) .dsp) ≡ isPresent (getD cs 12 0)
+    pub lsp : isCarried (carriesOf (chosenLayout blockLines cs) .lsp) ≡ isPresent (getD cs 13 0)
 
   flag-in : (i : ℕ) → i < length blockLines → (key : String) (f : Slot) → onlyIn blockLines i f ≡ true → getD blockLines i [] ≡ flagLine key f
-      → has (chosenRow blockLines cs) f ≡ isTold (getD cs i 0)
+      → has (chosenLayout blockLines cs) f ≡ isPresent (getD cs i 0)
   flag-in i b key f p e =
       found cs o i f p ∙ ap (λ (l : Line). has (getD l (getD cs i 0) []) f) e
       ∙ flag-has key f (getD cs i 0) (subst (λ (l : Line). getD cs i 0 < length l) e (choice-lt blockLines cs o i b))
 
   pub laid : Laid
-  unfolding carriesOf everyLine everyLayout onlyIn has
+  unfolding carriesOf everyLine everyVariant onlyIn has
   laid =
       record {
         date = rw (found cs o 0 month refl, found cs o 0 year refl, found cs o 0 ordinal refl);

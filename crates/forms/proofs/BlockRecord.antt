@@ -1,36 +1,28 @@
--- A record and the block's rows: its own choices make a row that takes and keeps the whole record, and a row that does so is
+-- A record and the block's layouts: its own choices make a layout that takes and keeps the whole record, and a layout that does so is
 -- made by its own choices.
-use mathlib.Core.Path.{_≡_, refl, sym, _∙_, ap, subst}
-use mathlib.Core.Bool.{Bool, true}
-use mathlib.Core.List.{List, [], _∷_}
-use Prim.Native.Nat.{ℕ, zero, suc, _+_, _≤_, _<_}
-use Prim.Native.String.{String}
-use native.Mathlib.Omega.{arith}
-use lib.Dec.{lit<}
-use lib.ListN.{length, getD, drop}
-use lib.Seq.{drop-cons, drop-length}
-use Rattle.choice.specs.Pick.{oneIf}
+use Rattle.cond.proofs.Kit.{[], _+_, _<_, _∙_, _∷_, _≡_, _≤_, ap, arith, Bool, drop, drop-cons, drop-length, getD, length, List, lit<, refl, String, subst, suc, sym, true, zero, ℕ}
+use Rattle.cond.specs.Pick.{oneIf}
 use Rattle.record.specs.Record.{isGood, isYes}
 use Rattle.record.specs.declared.Flag.{Flag}
 use Rattle.record.specs.declared.Record.{Record}
-use Rattle.forms.specs.Block.{Line, blockLines, choices, chosenRow, flagLine}
+use Rattle.forms.specs.Block.{Line, blockLines, choices, chosenLayout, flagLine}
 use Rattle.forms.specs.Carries.{Carries, carriesOf}
-use Rattle.forms.specs.Fields.Flag.{flagChoice, hasFlag, keptFlag}
+use Rattle.forms.specs.Fields.Flag.{flagChoice, hasFlag, carriedFlag}
 use Rattle.forms.specs.Form.{isExpressible}
-use Rattle.forms.specs.Kept.{kept}
-use Rattle.forms.specs.Needs.{hasAll}
-use Rattle.forms.specs.Places.{allWorded, rowWidth}
+use Rattle.forms.specs.CarriedPart.{carriedPart}
+use Rattle.forms.specs.Required.{hasCarried}
+use Rattle.forms.specs.Places.{hasWords, layoutWidth}
 use Rattle.forms.specs.Slots.{Slot, change, dsp, fix, hour, leap, lsp, minus, minute, second, south, summer, sync, utc, west, zone}
-use Rattle.forms.specs.Told.{told}
-use Rattle.forms.proofs.Append.{width-append, worded-append}
+use Rattle.forms.specs.Encode.{encode}
+use Rattle.forms.proofs.Append.{width-append, has-words-append}
 use Rattle.forms.proofs.BlockCarries.{laid}
-use Rattle.forms.proofs.BlockRow.{block-time}
-use Rattle.forms.proofs.Bounds.{good, told-lt}
-use Rattle.forms.proofs.Choices.{channel-choice, channel-own, date-choice, date-own, fraction-choice, fraction-own, isTold, offset-choice, offset-own, position-choice, position-own}
-use Rattle.forms.proofs.FlagChoices.{flag-among, flag-choice, flag-taken, flag-width, flag-worded}
+use Rattle.forms.proofs.BlockLayout.{block-time}
+use Rattle.forms.proofs.Bounds.{good, encode-lt}
+use Rattle.forms.proofs.Choices.{channel-choice, channel-own, date-choice, date-own, fraction-choice, fraction-own, isPresent, offset-choice, offset-own, position-choice, position-own}
+use Rattle.forms.proofs.FlagChoices.{flag-among, flag-choice, flag-taken, flag-width, flag-has-words}
 use Rattle.forms.proofs.Limits.{bound}
-use Rattle.forms.proofs.Lines.{choice-length, choice-lt, isChoice, worded-in}
-use Rattle.forms.proofs.Needs.{all-of}
+use Rattle.forms.proofs.Lines.{choice-length, choice-lt, isChoice, has-words-in}
+use Rattle.forms.proofs.Required.{all-of}
 
 -- the elements of a list from i on
 unfoldable elements : ℕ → ℕ → List ℕ → List ℕ
@@ -50,40 +42,40 @@ module _ (r : Record) where
   own-choice =
       simp (date-own (r .date) .among, fraction-own (r .fraction) .among, channel-own (r .channel) .among, flag-among, offset-own (r .offset) .among, position-own (r .position) .among)
 
-  -- the row takes the whole record
-  pub own-complete : hasAll (carriesOf (chosenRow blockLines (choices r))) r ≡ true
-  unfolding hasAll
+  -- the layout takes the whole record
+  pub own-complete : hasCarried (carriesOf (chosenLayout blockLines (choices r))) r ≡ true
+  unfolding hasCarried
   own-complete =
       let t = laid (choices r) own-choice in
       simp (t .date, date-own (r .date) .taken, t .fraction, fraction-own (r .fraction) .taken, t .channel, channel-own (r .channel) .taken, t .sync, flag-taken (r .sync) .0, t .fix, flag-taken (r .fix) .0, t .utc, flag-taken (r .utc) .0, t .summer, flag-taken (r .summer) .0, t .change, flag-taken (r .change) .0, t .leap, flag-taken (r .leap) .0, t .offset, offset-own (r .offset) .taken, t .position, position-own (r .position) .taken, t .dsp, flag-taken (r .dsp) .0, t .lsp, flag-taken (r .lsp) .0)
 
-  -- the row keeps the whole record
-  pub own-kept : kept (carriesOf (chosenRow blockLines (choices r))) r ≡ r
-  unfolding kept
-  own-kept =
+  -- the layout keeps the whole record
+  pub own-part : carriedPart (carriesOf (chosenLayout blockLines (choices r))) r ≡ r
+  unfolding carriedPart
+  own-part =
       let t = laid (choices r) own-choice in
       simp (t .date, date-own (r .date) .whole, t .fraction, fraction-own (r .fraction) .whole, t .channel, channel-own (r .channel) .whole, t .sync, flag-taken (r .sync) .1, t .fix, flag-taken (r .fix) .1, t .utc, flag-taken (r .utc) .1, t .summer, flag-taken (r .summer) .1, t .change, flag-taken (r .change) .1, t .leap, flag-taken (r .leap) .1, t .offset, offset-own (r .offset) .whole, t .position, position-own (r .position) .whole, t .dsp, flag-taken (r .dsp) .1, t .lsp, flag-taken (r .lsp) .1)
 
-  -- each word list of the row has a word for the record
-  own-words : isGood r ≡ true → allWorded (chosenRow blockLines (choices r)) (told r) ≡ true
-  unfolding chosenRow allWorded bound
+  -- each word list of the layout has a word for the record
+  own-words : isGood r ≡ true → hasWords (chosenLayout blockLines (choices r)) (encode r) ≡ true
+  unfolding chosenLayout hasWords bound
   own-words g =
-      let below = told-lt r (good r g) in
+      let below = encode-lt r (good r g) in
       let m = below minus in
       let s = below south in
       let w = below west in
-      simp (worded-append, date-own (r .date) .worded (told r) m s w, fraction-own (r .fraction) .worded (told r) m s w, channel-own (r .channel) .worded (told r) m s w, flag-worded "sync=" sync (r .sync) (told r) refl, flag-worded "fix=" fix (r .fix) (told r) refl, flag-worded "utc=" utc (r .utc) (told r) refl, flag-worded "summer=" summer (r .summer) (told r) refl, flag-worded "change=" change (r .change) (told r) refl, flag-worded "leap=" leap (r .leap) (told r) refl, offset-own (r .offset) .worded (told r) m s w, position-own (r .position) .worded (told r) m s w, flag-worded "dsp=" dsp (r .dsp) (told r) refl, flag-worded "lsp=" lsp (r .lsp) (told r) refl)
+      simp (has-words-append, date-own (r .date) .hasWord (encode r) m s w, fraction-own (r .fraction) .hasWord (encode r) m s w, channel-own (r .channel) .hasWord (encode r) m s w, flag-has-words "sync=" sync (r .sync) (encode r) refl, flag-has-words "fix=" fix (r .fix) (encode r) refl, flag-has-words "utc=" utc (r .utc) (encode r) refl, flag-has-words "summer=" summer (r .summer) (encode r) refl, flag-has-words "change=" change (r .change) (encode r) refl, flag-has-words "leap=" leap (r .leap) (encode r) refl, offset-own (r .offset) .hasWord (encode r) m s w, position-own (r .position) .hasWord (encode r) m s w, flag-has-words "dsp=" dsp (r .dsp) (encode r) refl, flag-has-words "lsp=" lsp (r .lsp) (encode r) refl)
 
   -- it is expressible: the time is always told
-  pub own-worded : isGood r ≡ true → isExpressible (chosenRow blockLines (choices r)) (told r) ≡ true
+  pub own-has-words : isGood r ≡ true → isExpressible (chosenLayout blockLines (choices r)) (encode r) ≡ true
   unfolding isExpressible
-  own-worded g =
-      let told-time = block-time (choices r) own-choice in
-      simp (told-time hour refl, told-time minute refl, told-time second refl, own-words g)
+  own-has-words g =
+      let encode-time = block-time (choices r) own-choice in
+      simp (encode-time hour refl, encode-time minute refl, encode-time second refl, own-words g)
 
   -- "118..174"
-  pub own-size : isGood r ≡ true → (118 ≤ rowWidth (chosenRow blockLines (choices r))) × (rowWidth (chosenRow blockLines (choices r)) ≤ 174)
-  unfolding chosenRow rowWidth bound
+  pub own-size : isGood r ≡ true → (118 ≤ layoutWidth (chosenLayout blockLines (choices r))) × (layoutWidth (chosenLayout blockLines (choices r)) ≤ 174)
+  unfolding chosenLayout layoutWidth bound
   own-size g =
       let x1 = date-own (r .date) in
       let x2 = fraction-own (r .fraction) in
@@ -98,23 +90,23 @@ module _ (r : Record) where
       let x11 = position-own (r .position) in
       let x12 = flag-width "dsp=" dsp (r .dsp) in
       let x13 = flag-width "lsp=" lsp (r .lsp) in
-      let z = told-lt r (good r g) zone in
+      let z = encode-lt r (good r g) zone in
       let x14 : oneIf (isYes (r .utc)) + oneIf (isYes (r .summer)) ≤ 1 = omega arith in
       simp width-append (omega arith)
 
--- what a row takes and keeps whole has chosen it
+-- what a layout takes and keeps whole has chosen it
 
-module _ (cs : List ℕ) (o : isChoice blockLines cs ≡ true) (r : Record) (w : allWorded (chosenRow blockLines cs) (told r) ≡ true) where
-  flag-own : (i : ℕ) → i < length blockLines → (key : String) (f : Slot) → getD blockLines i [] ≡ flagLine key f → (b : Bool) → b ≡ isTold (getD cs i 0)
-      → (x : Flag) → hasFlag b x ≡ true → keptFlag b x ≡ x → told r f ≡ oneIf (isYes x) → flagChoice x ≡ getD cs i 0
+module _ (cs : List ℕ) (o : isChoice blockLines cs ≡ true) (r : Record) (w : hasWords (chosenLayout blockLines cs) (encode r) ≡ true) where
+  flag-own : (i : ℕ) → i < length blockLines → (key : String) (f : Slot) → getD blockLines i [] ≡ flagLine key f → (b : Bool) → b ≡ isPresent (getD cs i 0)
+      → (x : Flag) → hasFlag b x ≡ true → carriedFlag b x ≡ x → encode r f ≡ oneIf (isYes x) → flagChoice x ≡ getD cs i 0
   flag-own i l key f e b q x h k v =
-      flag-choice key f (getD cs i 0) x (told r) (subst (λ (m : Line). getD cs i 0 < length m) e (choice-lt blockLines cs o i l)) (rw q at h) (rw q at k)
-      (subst (λ (m : Line). allWorded (getD m (getD cs i 0) []) (told r) ≡ true) e (worded-in blockLines cs (told r) w o i)) v
+      flag-choice key f (getD cs i 0) x (encode r) (subst (λ (m : Line). getD cs i 0 < length m) e (choice-lt blockLines cs o i l)) (rw q at h) (rw q at k)
+      (subst (λ (m : Line). hasWords (getD m (getD cs i 0) []) (encode r) ≡ true) e (has-words-in blockLines cs (encode r) w o i)) v
 
-  pub own-choices : hasAll (carriesOf (chosenRow blockLines cs)) r ≡ true → kept (carriesOf (chosenRow blockLines cs)) r ≡ r → choices r ≡ cs
-  unfolding kept elements
+  pub own-choices : hasCarried (carriesOf (chosenLayout blockLines cs)) r ≡ true → carriedPart (carriesOf (chosenLayout blockLines cs)) r ≡ r → choices r ≡ cs
+  unfolding carriedPart elements
   own-choices h k =
-      let carried : Carries = carriesOf (chosenRow blockLines cs) in
+      let carried : Carries = carriesOf (chosenLayout blockLines cs) in
       let t = laid cs o in
       let below = choice-lt blockLines cs o in
       let a = all-of carried r h in

@@ -1,20 +1,16 @@
--- A good record tells less than each slot's bound, and what a form keeps of it is good.
-use mathlib.Core.Path.{_≡_, refl}
-use mathlib.Core.Bool.{Bool, true, not, _&&_, false, false≢true}
-use Prim.Native.Nat.{_<_}
-use native.Mathlib.Omega.{arith}
-use lib.Dec.{lit<}
-use Rattle.choice.proofs.Tests.{both, pick-le}
+-- A good record tells less than each slot's bound, and what a form carries of it is good.
+use Rattle.cond.proofs.Kit.{_&&_, _<_, _≡_, arith, Bool, false, false≢true, lit<, not, refl, true}
+use Rattle.cond.proofs.Tests.{both, pick-le}
 use Rattle.record.specs.Record.{channelInRange, dateInRange, fractionInRange, inRange, isGood, isYes, offsetInRange, positionInRange, timeInRange, zoneAgrees}
 use Rattle.record.specs.declared.Flag.{Flag}
 use Rattle.record.specs.declared.Flag.the-variants as flagIs
 use Rattle.record.specs.declared.Record.{Record}
 use Rattle.forms.specs.Carries.{Carries}
-use Rattle.forms.specs.Fields.Flag.{isCarried, keptFlag}
+use Rattle.forms.specs.Fields.Flag.{isCarried, carriedFlag}
 use Rattle.forms.specs.Fields.Offset.{isOffset}
-use Rattle.forms.specs.Kept.{kept}
+use Rattle.forms.specs.CarriedPart.{carriedPart}
 use Rattle.forms.specs.Slots.{Slot}
-use Rattle.forms.specs.Told.{told}
+use Rattle.forms.specs.Encode.{encode}
 use Rattle.forms.proofs.Fields.Channel.{channel-lt, channel-stays}
 use Rattle.forms.proofs.Fields.Date.{date-lts, date-stays}
 use Rattle.forms.proofs.Fields.Flag.{one-lt, pairOf}
@@ -53,19 +49,19 @@ pair-lt true false h = lit< tt
 pair-lt true true h = absurd (false≢true h)
 
 module _ (r : Record) (c : Good r) where
-  flag-lts : Each (λ (f : Slot). told r f < bound f) ofFlags
+  flag-lts : Each (λ (f : Slot). encode r f < bound f) ofFlags
   unfolding bound
   flag-lts =
-      let quality : told r Slot.quality < 16 = omega (arith, pick-le (isYes (r .sync)) 0 15 15 (omega arith) (omega arith)) in
-      let notice : told r Slot.notice < 4 = omega (arith, one-lt (isYes (r .change)), one-lt (isYes (r .leap))) in
+      let quality : encode r Slot.quality < 16 = omega (arith, pick-le (isYes (r .sync)) 0 15 15 (omega arith) (omega arith)) in
+      let notice : encode r Slot.notice < 4 = omega (arith, one-lt (isYes (r .change)), one-lt (isYes (r .leap))) in
       one-lt (isYes (r .sync)) and quality and one-lt (isYes (r .fix)) and pair-lt (isYes (r .utc)) (isYes (r .summer)) (c .zoned)
       and one-lt (isYes (r .utc)) and one-lt (isYes (r .summer)) and notice and one-lt (isYes (r .change)) and one-lt (isYes (r .leap))
       and one-lt (isYes (r .dsp)) and one-lt (isYes (r .lsp)) and none
 
-  pub told-lt : (f : Slot) → told r f < bound f
+  pub encode-lt : (f : Slot) → encode r f < bound f
   unfolding bound
-  told-lt =
-      every-each (λ (f : Slot). told r f < bound f)
+  encode-lt =
+      every-each (λ (f : Slot). encode r f < bound f)
       (time-lts r (c .time) then derived-lts r (c .time) then date-lts r (c .date) then fraction-lts r (c .fraction)
       then (channel-lt (r .channel) (c .channel) and none)
       then flag-lts
@@ -73,19 +69,19 @@ module _ (r : Record) (c : Good r) where
       then position-lts r (c .position)
       then (lit< tt and none))
 
--- not both are yes in what is kept
-not-both : (a b : Bool) (x y : Flag) → not (isYes x && isYes y) ≡ true → not (isYes (keptFlag a x) && isYes (keptFlag b y)) ≡ true
-unfolding keptFlag
+-- not both are yes in what is carried
+not-both : (a b : Bool) (x y : Flag) → not (isYes x && isYes y) ≡ true → not (isYes (carriedFlag a x) && isYes (carriedFlag b y)) ≡ true
+unfolding carriedFlag
 not-both false b x y h = refl
 not-both true false flagIs.Absent y h = refl
 not-both true false flagIs.No y h = refl
 not-both true false flagIs.Yes y h = refl
 not-both true true x y h = h
 
--- what is kept of a good record is in range
-pub kept-inRange : (k : Carries) (r : Record) → Good r → inRange (kept k r) ≡ true
-unfolding inRange kept
-kept-inRange k r c =
+-- what is carried of a good record is in range
+pub carried-inRange : (k : Carries) (r : Record) → Good r → inRange (carriedPart k r) ≡ true
+unfolding inRange carriedPart
+carried-inRange k r c =
     simp (
       c .time,
       date-stays (k .date) (r .date) (c .date),
@@ -95,6 +91,6 @@ kept-inRange k r c =
       position-stays (k .position) (r .position) (c .position),
     )
 
-pub kept-zoned : (k : Carries) (r : Record) → Good r → zoneAgrees (kept k r) ≡ true
-unfolding zoneAgrees kept
-kept-zoned k r c = not-both (isCarried (k .utc)) (isCarried (k .summer)) (r .utc) (r .summer) (c .zoned)
+pub carried-zoned : (k : Carries) (r : Record) → Good r → zoneAgrees (carriedPart k r) ≡ true
+unfolding zoneAgrees carriedPart
+carried-zoned k r c = not-both (isCarried (k .utc)) (isCarried (k .summer)) (r .utc) (r .summer) (c .zoned)

@@ -1,18 +1,13 @@
 -- The checksums of a form: written, each holds; read, each is the one that is written again.
-use mathlib.Core.Path.{_≡_, refl, sym, _∙_, ap, subst}
-use mathlib.Core.Bool.{Bool, true, false, not, _&&_, _||_, false≢true}
-use mathlib.Core.List.{List, [], _∷_}
-use Prim.Native.Nat.{ℕ}
-use borrow.Author.Tests.{eq-eqb, eqb-true, not-true}
-use lib.Dec.{eqb}
-use Rattle.choice.specs.Pick.{pick}
-use Rattle.choice.proofs.Tests.{both, or-left, or-right}
+use Rattle.cond.proofs.Kit.{[], _&&_, _||_, _∙_, _∷_, _≡_, ap, Bool, eq-eqb, eqb, eqb-true, false, false≢true, List, not, not-true, refl, subst, sym, true, ℕ}
+use Rattle.cond.specs.Pick.{pick}
+use Rattle.cond.proofs.Tests.{both, or-left, or-right}
 use Rattle.forms.specs.All.{all}
 use Rattle.forms.specs.Checksum.{Checksum, checksumOf, checksumTests, checksumsHold, withChecksums}
-use Rattle.forms.specs.Places.{Row, has}
+use Rattle.forms.specs.Places.{Layout, has}
 use Rattle.forms.specs.Slots.{Slot, Values, among, isChecksum, same}
 use Rattle.forms.proofs.All.{all-cons, cons-all, test-at}
-use Rattle.forms.proofs.Checksums.{unsummedFrom}
+use Rattle.forms.proofs.Checksums.{uncheckedFrom}
 use Rattle.forms.proofs.Slots.{same-slot, slot-self}
 
 -- the slots of the checksums
@@ -20,38 +15,38 @@ abbrev pub slotsOf : List Checksum → List Slot
 slotsOf [] = []
 slotsOf (c ∷ cs) = c .slot ∷ slotsOf cs
 
--- the row has the checksum's slot, which no other has, and its bytes tell no checksum
-abbrev pub checksumSound : Row → Checksum → List Checksum → Bool
+-- the layout has the checksum's slot, which no other has, and its bytes tell no checksum
+abbrev pub checksumSound : Layout → Checksum → List Checksum → Bool
 checksumSound ps c cs =
-    all (isChecksum (c .slot) ∷ has ps (c .slot) ∷ not (among (c .slot) (slotsOf cs)) ∷ unsummedFrom ps (c .from) (c .count) ∷ [])
+    all (isChecksum (c .slot) ∷ has ps (c .slot) ∷ not (among (c .slot) (slotsOf cs)) ∷ uncheckedFrom ps (c .from) (c .count) ∷ [])
 
-unfoldable pub checksumsSound : Row → List Checksum → Bool
+unfoldable pub checksumsSound : Layout → List Checksum → Bool
 checksumsSound ps [] = true
 checksumsSound ps (c ∷ cs) = checksumSound ps c cs && checksumsSound ps cs
 
-pub record Sound (ps : Row) (c : Checksum) (cs : List Checksum) : Type 0 where
-  pub isSum : isChecksum (c .slot) ≡ true
+pub record Sound (ps : Layout) (c : Checksum) (cs : List Checksum) : Type 0 where
+  pub isOfChecksum : isChecksum (c .slot) ≡ true
   pub placed : has ps (c .slot) ≡ true
   pub alone : among (c .slot) (slotsOf cs) ≡ false
-  pub unsummed : unsummedFrom ps (c .from) (c .count) ≡ true
+  pub unchecked : uncheckedFrom ps (c .from) (c .count) ≡ true
   pub others : checksumsSound ps cs ≡ true
 
-pub sound-of : (ps : Row) (c : Checksum) (cs : List Checksum) → checksumsSound ps (c ∷ cs) ≡ true → Sound ps c cs
+pub sound-of : (ps : Layout) (c : Checksum) (cs : List Checksum) → checksumsSound ps (c ∷ cs) ≡ true → Sound ps c cs
 unfolding checksumsSound
 sound-of ps c cs h =
     let a = both (checksumSound ps c cs) (checksumsSound ps cs) h in
     let at =
     test-at
-    (isChecksum (c .slot) ∷ has ps (c .slot) ∷ not (among (c .slot) (slotsOf cs)) ∷ unsummedFrom ps (c .from) (c .count) ∷ [])
+    (isChecksum (c .slot) ∷ has ps (c .slot) ∷ not (among (c .slot) (slotsOf cs)) ∷ uncheckedFrom ps (c .from) (c .count) ∷ [])
     (a .0) in
-    record { isSum = at 0; placed = at 1; alone = not-true _ (at 2); unsummed = at 3; others = a .1 }
+    record { isOfChecksum = at 0; placed = at 1; alone = not-true _ (at 2); unchecked = at 3; others = a .1 }
 
 -- a slot that tells no checksum is none of theirs
-pub not-summed : (ps : Row) (cs : List Checksum) → checksumsSound ps cs ≡ true → (f : Slot) → isChecksum f ≡ false → among f (slotsOf cs) ≡ false
-not-summed ps [] o f n = refl
-not-summed ps (c ∷ cs) o f n =
+pub not-checked : (ps : Layout) (cs : List Checksum) → checksumsSound ps cs ≡ true → (f : Slot) → isChecksum f ≡ false → among f (slotsOf cs) ≡ false
+not-checked ps [] o f n = refl
+not-checked ps (c ∷ cs) o f n =
     let a = sound-of ps c cs o in
-    go (same f (c .slot)) refl (a .isSum) (not-summed ps cs (a .others) f n)
+    go (same f (c .slot)) refl (a .isOfChecksum) (not-checked ps cs (a .others) f n)
   where
     go : (b : Bool) → same f (c .slot) ≡ b → isChecksum (c .slot) ≡ true → among f (slotsOf cs) ≡ false → (b || among f (slotsOf cs)) ≡ false
     go true q e i = absurd (false≢true (sym n ∙ ap isChecksum (same-slot f (c .slot) q) ∙ e))
@@ -74,27 +69,27 @@ no-other f c cs t w i n true q = absurd (false≢true (sym n ∙ subst (λ (g : 
 no-other f c cs t w i n false q = refl
 
 -- the checksums of t, which are those of s, hold of s where they are told
-pub written-hold : (ps : Row) (cs : List Checksum) (s t : List ℕ) (v w : Values) → checksumsSound ps cs ≡ true
-    → ((c : Checksum) → unsummedFrom ps (c .from) (c .count) ≡ true → checksumOf c t ≡ checksumOf c s)
+pub written-hold : (ps : Layout) (cs : List Checksum) (s t : List ℕ) (v w : Values) → checksumsSound ps cs ≡ true
+    → ((c : Checksum) → uncheckedFrom ps (c .from) (c .count) ≡ true → checksumOf c t ≡ checksumOf c s)
     → ((f : Slot) → has ps f ≡ true → among f (slotsOf cs) ≡ true → v f ≡ withChecksums cs t w f) → checksumsHold cs s v ≡ true
 unfolding checksumsHold
 written-hold ps [] s t v w o e h = refl
 written-hold ps (c ∷ cs) s t v w o e h =
     let a = sound-of ps c cs o in
-    let here : v (c .slot) ≡ checksumOf c s = h (c .slot) (a .placed) (or-left _ _ (slot-self (c .slot))) ∙ simp (slot-self (c .slot)) (e c (a .unsummed)) in
+    let here : v (c .slot) ≡ checksumOf c s = h (c .slot) (a .placed) (or-left _ _ (slot-self (c .slot))) ∙ simp (slot-self (c .slot)) (e c (a .unchecked)) in
     cons-all (eqb (v (c .slot)) (checksumOf c s)) (checksumTests cs s v) (eq-eqb _ _ here)
     (written-hold ps cs s t v w (a .others) e (λ f i j. h f i (or-right (same f (c .slot)) _ j) ∙ no-other f c cs t w j (a .alone) (same f (c .slot)) refl))
 
 -- the checksums that a string tells are those that are written again
-pub sums-again : (ps : Row) (cs : List Checksum) (s t : List ℕ) (v w : Values) → checksumsSound ps cs ≡ true
-    → ((c : Checksum) → unsummedFrom ps (c .from) (c .count) ≡ true → checksumOf c t ≡ checksumOf c s) → checksumsHold cs s v ≡ true
+pub checksums-again : (ps : Layout) (cs : List Checksum) (s t : List ℕ) (v w : Values) → checksumsSound ps cs ≡ true
+    → ((c : Checksum) → uncheckedFrom ps (c .from) (c .count) ≡ true → checksumOf c t ≡ checksumOf c s) → checksumsHold cs s v ≡ true
     → (f : Slot) → among f (slotsOf cs) ≡ true → withChecksums cs t w f ≡ v f
 unfolding checksumsHold
-sums-again ps [] s t v w o e h f i = absurd (false≢true i)
-sums-again ps (c ∷ cs) s t v w o e h f i =
+checksums-again ps [] s t v w o e h f i = absurd (false≢true i)
+checksums-again ps (c ∷ cs) s t v w o e h f i =
     let a = sound-of ps c cs o in
     let b = all-cons (eqb (v (c .slot)) (checksumOf c s)) (checksumTests cs s v) h in
-    go (same f (c .slot)) refl i (e c (a .unsummed) ∙ sym (eqb-true _ _ (b .0))) (sums-again ps cs s t v w (a .others) e (b .1) f)
+    go (same f (c .slot)) refl i (e c (a .unchecked) ∙ sym (eqb-true _ _ (b .0))) (checksums-again ps cs s t v w (a .others) e (b .1) f)
   where
     go : (x : Bool) → same f (c .slot) ≡ x → (x || among f (slotsOf cs)) ≡ true → checksumOf c t ≡ v (c .slot)
         → (among f (slotsOf cs) ≡ true → withChecksums cs t w f ≡ v f) → pick x (checksumOf c t) (withChecksums cs t w f) ≡ v f

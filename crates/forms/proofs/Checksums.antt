@@ -1,25 +1,16 @@
 -- A checksum over bytes that tell none does not see any, and stays below its limit.
-use mathlib.Core.Path.{_≡_, refl, sym, _∙_, ap}
-use mathlib.Core.Bool.{Bool, true, false, not, _&&_, _||_}
-use mathlib.Core.List.{List, [], _∷_, _++_}
-use mathlib.Core.Logic.{⊎-elim}
-use Prim.Native.Nat.{ℕ, zero, suc, _+_, _-_, _<_}
-use native.Mathlib.Nat.{zero-add, suc-add}
-use native.Mathlib.Omega.{arith}
-use borrow.Author.Tests.{eqb-true, leb-true, ltb-true, not-true}
+use Rattle.cond.proofs.Kit.{[], _&&_, _++_, _+_, _-_, _<_, _||_, _∙_, _∷_, _≡_, ap, arith, Bool, drop, drop-at, drop-drop, eqb, eqb-true, false, leb}
+use Rattle.cond.proofs.Kit.{leb-true, length, List, ltb, ltb-true, not, not-true, refl, suc, suc-add, sym, take, take-nil, true, zero, zero-add, ℕ, ⊎-elim}
 use lib.Bits.{bitXor, xor-lt}
-use lib.Dec.{eqb, leb, ltb}
-use lib.ListN.{length, take, drop}
-use lib.Seq.{drop-drop, drop-at, take-nil}
-use Rattle.choice.specs.Pick.{pick}
-use Rattle.choice.proofs.Tests.{both, either, or-left, or-right}
+use Rattle.cond.specs.Pick.{pick}
+use Rattle.cond.proofs.Tests.{both, either, or-left, or-right}
 use Rattle.spelling.specs.Bytes.{allAre, xorFrom}
 use Rattle.spelling.specs.Spelling.{spell}
 use Rattle.forms.specs.Checksum.{Checksum, Rule, checksumOf, evenOnes, exclusiveOr, totalBy}
-use Rattle.forms.specs.Places.{Place, Row, bytesOf, fixed, has, isOf, part, placed, width}
+use Rattle.forms.specs.Places.{Place, Layout, bytesOf, fixed, has, isOf, part, placed, width}
 use Rattle.forms.specs.Slots.{Slot, Values, isChecksum, same}
 use Rattle.forms.proofs.Allowed.{all-drop, all-take}
-use Rattle.forms.proofs.Rows.{placed-length, roomy, roomyRow, soundPlace, soundRow}
+use Rattle.forms.proofs.Layouts.{placed-length, roomy, roomyLayout, soundPlace, soundLayout}
 use Rattle.forms.proofs.Slots.{slot-self}
 
 take-app : (n : ℕ) (a b : List ℕ) → take n (a ++ b) ≡ take n a ++ take (n - length a) b
@@ -39,69 +30,69 @@ take-drop (suc a) n [] = take-nil n ∙ sym (ap (drop (suc a)) (take-nil (suc a 
 take-drop (suc a) n (x ∷ s) = take-drop a n s ∙ sym (ap (λ (k : ℕ). drop (suc a) (take k (x ∷ s))) (suc-add a n))
 
 -- the place tells no checksum
-abbrev pub unsummedPlace : Place → Bool
-unsummedPlace (fixed bs) = true
-unsummedPlace (part c f) = not (isChecksum f)
+abbrev pub uncheckedPlace : Place → Bool
+uncheckedPlace (fixed bs) = true
+uncheckedPlace (part c f) = not (isChecksum f)
 
 -- no place of the first n bytes tells one
-unfoldable pub unsummed : Row → ℕ → Bool
-unsummed [] n = true
-unsummed (p ∷ ps) n = eqb n 0 || (unsummedPlace p && unsummed ps (n - width p))
+unfoldable pub unchecked : Layout → ℕ → Bool
+unchecked [] n = true
+unchecked (p ∷ ps) n = eqb n 0 || (uncheckedPlace p && unchecked ps (n - width p))
 
 -- no place of the n bytes behind the first m tells one
-unfoldable pub unsummedFrom : Row → ℕ → ℕ → Bool
-unsummedFrom [] m n = true
-unsummedFrom (p ∷ ps) m n = pick (leb (width p) m) (unsummedFrom ps (m - width p) n) (unsummed (p ∷ ps) (m + n))
+unfoldable pub uncheckedFrom : Layout → ℕ → ℕ → Bool
+uncheckedFrom [] m n = true
+uncheckedFrom (p ∷ ps) m n = pick (leb (width p) m) (uncheckedFrom ps (m - width p) n) (unchecked (p ∷ ps) (m + n))
 
 -- bytes whose places tell no checksum are the same for values that differ in checksums alone
 module _ (v w : Values) where
-  -- the row's values but for checksums
-  abbrev Alike : Row → Type 0
+  -- the layout's values but for checksums
+  abbrev Alike : Layout → Type 0
   Alike ps = (f : Slot) → has ps f ≡ true → isChecksum f ≡ false → v f ≡ w f
 
-  behind-alike : (p : Place) (ps : Row) → Alike (p ∷ ps) → Alike ps
+  behind-alike : (p : Place) (ps : Layout) → Alike (p ∷ ps) → Alike ps
   unfolding has
   behind-alike p ps e f h = e f (or-right (isOf f p) (has ps f) h)
 
-  placed-alike : (p : Place) (ps : Row) → Alike (p ∷ ps) → unsummedPlace p ≡ true → placed p v ≡ placed p w
+  placed-alike : (p : Place) (ps : Layout) → Alike (p ∷ ps) → uncheckedPlace p ≡ true → placed p v ≡ placed p w
   unfolding has
   placed-alike (fixed bs) ps e h = refl
   placed-alike (part c f) ps e h = ap (spell c) (e f (or-left (same f f) (has ps f) (slot-self f)) (not-true (isChecksum f) h))
 
-  front-alike : (ps : Row) (n : ℕ) → Alike ps → soundRow ps ≡ true → roomyRow ps v ≡ true → roomyRow ps w ≡ true → unsummed ps n ≡ true
+  front-alike : (ps : Layout) (n : ℕ) → Alike ps → soundLayout ps ≡ true → roomyLayout ps v ≡ true → roomyLayout ps w ≡ true → unchecked ps n ≡ true
       → take n (bytesOf ps v) ≡ take n (bytesOf ps w)
-  unfolding bytesOf unsummed soundRow roomyRow
+  unfolding bytesOf unchecked soundLayout roomyLayout
   front-alike [] n e s x y h = refl
   front-alike (p ∷ ps) n e s x y h =
       ⊎-elim (λ i. let z = eqb-true n 0 i in simp z)
       (λ i.
-      let q = both (unsummedPlace p) (unsummed ps (n - width p)) i in
-      let a = both (soundPlace p) (soundRow ps) s in
-      let b = both (roomy p v) (roomyRow ps v) x in
-      let c = both (roomy p w) (roomyRow ps w) y in
+      let q = both (uncheckedPlace p) (unchecked ps (n - width p)) i in
+      let a = both (soundPlace p) (soundLayout ps) s in
+      let b = both (roomy p v) (roomyLayout ps v) x in
+      let c = both (roomy p w) (roomyLayout ps w) y in
       let l = placed-length p w (a .0) (c .0) in
       let t = front-alike ps (n - width p) (behind-alike p ps e) (a .1) (b .1) (c .1) (q .1) in
       ap (λ (u : List ℕ). take n (u ++ bytesOf ps v)) (placed-alike p ps e (q .0)) ∙ take-app n (placed p w) (bytesOf ps v)
       ∙ ap (λ (k : ℕ). take n (placed p w) ++ take (n - k) (bytesOf ps v)) l
       ∙ ap (λ (u : List ℕ). take n (placed p w) ++ u) t
       ∙ sym (take-app n (placed p w) (bytesOf ps w) ∙ ap (λ (k : ℕ). take n (placed p w) ++ take (n - k) (bytesOf ps w)) l))
-      (either (eqb n 0) (unsummedPlace p && unsummed ps (n - width p)) h)
+      (either (eqb n 0) (uncheckedPlace p && unchecked ps (n - width p)) h)
 
-  pub range-alike : (ps : Row) (m n : ℕ) → Alike ps → soundRow ps ≡ true → roomyRow ps v ≡ true → roomyRow ps w ≡ true → unsummedFrom ps m n ≡ true
+  pub range-alike : (ps : Layout) (m n : ℕ) → Alike ps → soundLayout ps ≡ true → roomyLayout ps v ≡ true → roomyLayout ps w ≡ true → uncheckedFrom ps m n ≡ true
       → take n (drop m (bytesOf ps v)) ≡ take n (drop m (bytesOf ps w))
-  unfolding unsummedFrom
+  unfolding uncheckedFrom
   range-alike [] m n e s x y h = unfold bytesOf in refl
   range-alike (p ∷ ps) m n e s x y h = go (leb (width p) m) refl h (range-alike ps (m - width p) n (behind-alike p ps e))
     where
-      go : (b : Bool) → leb (width p) m ≡ b → pick b (unsummedFrom ps (m - width p) n) (unsummed (p ∷ ps) (m + n)) ≡ true
-          → (soundRow ps ≡ true → roomyRow ps v ≡ true → roomyRow ps w ≡ true → unsummedFrom ps (m - width p) n ≡ true
+      go : (b : Bool) → leb (width p) m ≡ b → pick b (uncheckedFrom ps (m - width p) n) (unchecked (p ∷ ps) (m + n)) ≡ true
+          → (soundLayout ps ≡ true → roomyLayout ps v ≡ true → roomyLayout ps w ≡ true → uncheckedFrom ps (m - width p) n ≡ true
           → take n (drop (m - width p) (bytesOf ps v)) ≡ take n (drop (m - width p) (bytesOf ps w)))
           → take n (drop m (bytesOf (p ∷ ps) v)) ≡ take n (drop m (bytesOf (p ∷ ps) w))
       go true q h i =
-          unfold bytesOf soundRow roomyRow in
-          let a = both (soundPlace p) (soundRow ps) s in
-          let b = both (roomy p v) (roomyRow ps v) x in
-          let c = both (roomy p w) (roomyRow ps w) y in
+          unfold bytesOf soundLayout roomyLayout in
+          let a = both (soundPlace p) (soundLayout ps) s in
+          let b = both (roomy p v) (roomyLayout ps v) x in
+          let c = both (roomy p w) (roomyLayout ps w) y in
           let l = leb-true (width p) m q in
           let past : (u : Values) → length (placed p u) ≡ width p → drop m (placed p u ++ bytesOf ps u) ≡ drop (m - width p) (bytesOf ps u) =
           λ u k.

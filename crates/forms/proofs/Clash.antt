@@ -1,21 +1,15 @@
--- Which bytes a row admits at each place, and rows that cannot fit the same bytes: somewhere one has a fixed byte that the
+-- Which bytes a layout admits at each place, and layouts that cannot fit the same bytes: somewhere one has a fixed byte that the
 -- other does not admit.
-use mathlib.Core.Path.{_≡_, refl, sym, _∙_, ap}
-use mathlib.Core.Bool.{Bool, true, false, not, _&&_, _||_, false≢true}
-use mathlib.Core.List.{List, [], _∷_}
-use mathlib.Core.Logic.{⊎-elim}
-use Prim.Native.Nat.{ℕ, zero, suc, _+_, _-_, _≤_, _<_}
-use native.Mathlib.Omega.{arith}
-use borrow.Author.Tests.{eq-eqb, eqb-true, le-leb, leb-true, ltb-false, ltb-true, not-true}
-use lib.Dec.{eqb, leb, ltb}
-use lib.ListN.{length, getD, take, drop, length-drop, length-take}
-use lib.Seq.{getD-drop, getD-take}
-use Rattle.choice.specs.Pick.{pick}
-use Rattle.choice.proofs.Tests.{both, both-hold, either, or-right}
+use Rattle.cond.proofs.Kit.{[], _&&_, _+_, _-_, _<_, _||_, _∙_, _∷_, _≡_, _≤_, ap, arith, Bool, drop, eq-eqb, eqb, eqb-true, false, false≢true, getD, getD-drop, getD-take, le-leb, leb}
+use Rattle.cond.proofs.Kit.{leb-true, length, length-drop, length-take, List, ltb, ltb-false, ltb-true, not, not-true, refl, suc, sym, take, true, zero, ℕ, ⊎-elim}
+use Rattle.cond.specs.Pick.{pick}
+use Rattle.cond.proofs.Tests.{both, both-hold, either, or-right}
 use Rattle.spelling.specs.Bytes.{areDigits, arePadded, isBit, isDigit, isHex, isWord, sameBytes}
-use Rattle.spelling.specs.Spelling.{bits, digits, grouped, hex, padded, word, words}
+use Rattle.spelling.specs.Spelling.{Spelling, bits, digits, grouped, hex, isMadeOf, padded, word, words}
+use Rattle.spelling.proofs.Spelling.{spelled-parts}
+use Rattle.forms.specs.Slots.{Slot}
 use Rattle.spelling.proofs.SameBytes.{same-bytes}
-use Rattle.forms.specs.Places.{Place, Row, fits, fixed, part, shape, width}
+use Rattle.forms.specs.Places.{Place, Layout, fits, fixed, part, shape, width}
 use Rattle.forms.proofs.Allowed.{all-at}
 
 -- the bytes that may stand somewhere: one alone, or those that pass a test
@@ -43,8 +37,8 @@ inPlace (part (grouped g gs) f) i = those (λ b. true)
 inPlace (part (words w ws) f) i = those (lettered ws i)
 inPlace (part (word m bs) f) i = only (getD bs i 0)
 
--- what may be byte i of a row, any byte behind it
-unfoldable pub admittedAt : Row → ℕ → Admitted
+-- what may be byte i of a layout, any byte behind it
+unfoldable pub admittedAt : Layout → ℕ → Admitted
 admittedAt [] i = those (λ b. true)
 admittedAt (p ∷ ps) i = pick (ltb i (width p)) (inPlace p i) (admittedAt ps (i - width p))
 
@@ -83,18 +77,21 @@ padded-at (b ∷ c ∷ bs) (suc i) h l = go (eqb b 32) h (padded-at (c ∷ bs) i
         or-right (eqb (getD (c ∷ bs) i 0) 32) (isDigit (getD (c ∷ bs) i 0))
         (all-at isDigit (c ∷ bs) i (both (leb 49 b && leb b 57) (areDigits (c ∷ bs)) h .1) (omega arith))
 
+made-of : (c : Spelling) (f : Slot) (x : List ℕ) (i : ℕ) → isMadeOf c x ≡ true → i < length x → admits (inPlace (part c f) i) (getD x i 0) ≡ true
+made-of (digits w) f x i h l = all-at isDigit x i h l
+made-of (hex w) f x i h l = all-at isHex x i h l
+made-of (padded w) f x i h l = padded-at x i h l
+made-of (bits w) f x i h l = all-at isBit x i h l
+made-of (grouped g gs) f x i h l = refl
+made-of (words w ws) f x i h l = lettered-at ws x i h
+made-of (word m bs) f x i h l = same-at x bs i h
+
 permitted : (p : Place) (x : List ℕ) (i : ℕ) → fits p x ≡ true → i < length x → admits (inPlace p i) (getD x i 0) ≡ true
 permitted (fixed bs) x i h l = same-at x bs i h
-permitted (part (digits w) f) x i h l = all-at isDigit x i h l
-permitted (part (hex w) f) x i h l = all-at isHex x i h l
-permitted (part (padded w) f) x i h l = padded-at x i h l
-permitted (part (bits w) f) x i h l = all-at isBit x i h l
-permitted (part (grouped g gs) f) x i h l = refl
-permitted (part (words w ws) f) x i h l = lettered-at ws x i h
-permitted (part (word m bs) f) x i h l = same-at x bs i h
+permitted (part c f) x i h l = made-of c f x i (spelled-parts x c h .1) l
 
--- a row admits the bytes that it fits
-shape-admits : (ps : Row) (k : ℕ) (s : List ℕ) (i : ℕ) → shape ps k s ≡ true → k + i < length s → admits (admittedAt ps i) (getD s (k + i) 0) ≡ true
+-- a layout admits the bytes that it fits
+shape-admits : (ps : Layout) (k : ℕ) (s : List ℕ) (i : ℕ) → shape ps k s ≡ true → k + i < length s → admits (admittedAt ps i) (getD s (k + i) 0) ≡ true
 unfolding shape admittedAt
 shape-admits [] k s i h l = refl
 shape-admits (p ∷ ps) k s i h l =
@@ -124,13 +121,13 @@ never-byte (only c) y b h e f = false≢true (sym (not-true (admits y c) h) ∙ 
 never-byte (those t) (only c) b h e f = false≢true (sym (not-true (t c) h) ∙ ap t (sym (eqb-true b c f)) ∙ e)
 never-byte (those t) (those u) b h e f = false≢true h
 
--- one of the first n bytes cannot stand in both rows
-unfoldable pub clashBelow : ℕ → Row → Row → Bool
+-- one of the first n bytes cannot stand in both layouts
+unfoldable pub clashBelow : ℕ → Layout → Layout → Bool
 clashBelow zero ps qs = false
 clashBelow (suc i) ps qs = clash (admittedAt ps i) (admittedAt qs i) || clashBelow i ps qs
 
--- rows that clash do not both fit
-pub never-both : (n : ℕ) (ps qs : Row) (k : ℕ) (s : List ℕ) → clashBelow n ps qs ≡ true → k + n ≤ length s → shape ps k s ≡ true → shape qs k s ≡ true → ⊥
+-- layouts that clash do not both fit
+pub never-both : (n : ℕ) (ps qs : Layout) (k : ℕ) (s : List ℕ) → clashBelow n ps qs ≡ true → k + n ≤ length s → shape ps k s ≡ true → shape qs k s ≡ true → ⊥
 unfolding clashBelow
 never-both zero ps qs k s c l h g = false≢true c
 never-both (suc i) ps qs k s c l h g =

@@ -1,4 +1,4 @@
--- The table of the forms is computed from their rows.
+-- The table of the forms is computed from their layouts.
 use mathlib.Core.Path.{refl}
 use Rattle.forms.specs.Carries.{carriesOf}
 use Rattle.forms.specs.Columns.{Table}

@@ -1,13 +1,8 @@
--- The test that a row's slots belong together, and what it says: fields told by several places have all of them, and no field
+-- The test that a layout's slots belong together, and what it says: fields told by several places have all of them, and no field
 -- is told twice.
-use mathlib.Core.Path.{_≡_}
-use mathlib.Core.Bool.{Bool, true, false, not, _||_, false≢true}
-use mathlib.Core.List.{List, [], _∷_}
-use Prim.Native.Nat.{_≤_}
-use borrow.Author.Tests.{leb-true, not-true}
-use lib.Dec.{leb}
+use Rattle.cond.proofs.Kit.{[], _||_, _∷_, _≡_, _≤_, Bool, false, false≢true, leb, leb-true, List, not, not-true, true}
 use Rattle.forms.specs.All.{all}
-use Rattle.forms.specs.Places.{Row, has}
+use Rattle.forms.specs.Places.{Layout, has}
 use Rattle.forms.specs.Slots.{Slot, change, leap, month, notice, quality, summer, sync, utc, weekday, zone}
 use Rattle.forms.proofs.All.{test-at}
 use Rattle.forms.proofs.Fields.Date.{dateWhole}
@@ -15,7 +10,7 @@ use Rattle.forms.proofs.Fields.Fraction.{fractionWhole}
 use Rattle.forms.proofs.Fields.Offset.{offsetWhole}
 use Rattle.forms.proofs.Fields.Position.{positionWhole}
 use Rattle.forms.proofs.Limits.{most}
-use Rattle.forms.proofs.RowLimits.{limitOf}
+use Rattle.forms.proofs.LayoutLimits.{limitOf}
 use Rattle.forms.proofs.Slots.{every, every-slot, slots}
 
 abbrev pub implies : Bool → Bool → Bool
@@ -32,7 +27,7 @@ excludes a b = implies a (not b)
 pub excluded : (a b : Bool) → excludes a b ≡ true → a ≡ true → b ≡ false
 excluded a b h e = not-true b (implied a (not b) h e)
 
-abbrev completeTests : Row → List Bool
+abbrev completeTests : Layout → List Bool
 completeTests ps =
     dateWhole ps
     ∷ fractionWhole ps
@@ -47,10 +42,10 @@ completeTests ps =
     ∷ every slots (λ (f : Slot). leb (limitOf ps f) (most f))
     ∷ []
 
-unfoldable pub isComplete : Row → Bool
+unfoldable pub isComplete : Layout → Bool
 isComplete ps = all (completeTests ps)
 
-pub record Complete (ps : Row) : Type 0 where
+pub record Complete (ps : Layout) : Type 0 where
   pub date : dateWhole ps ≡ true
   pub fraction : fractionWhole ps ≡ true
   pub offset : offsetWhole ps ≡ true
@@ -63,7 +58,7 @@ pub record Complete (ps : Row) : Type 0 where
   pub leap : has ps Slot.leap ≡ true → has ps notice ≡ false
   pub meant : (f : Slot) → limitOf ps f ≤ most f
 
-pub complete : (ps : Row) → isComplete ps ≡ true → Complete ps
+pub complete : (ps : Layout) → isComplete ps ≡ true → Complete ps
 unfolding isComplete
 complete ps h =
     let at = test-at (completeTests ps) h in

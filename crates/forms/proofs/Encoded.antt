@@ -1,23 +1,20 @@
--- A record decoded from values tells those values again on the slots of its row, has all that its form carries, and nothing else.
-use mathlib.Core.Path.{_≡_, refl, sym, _∙_}
-use mathlib.Core.Bool.{true, false}
-use mathlib.Core.List.{List}
-use Prim.Native.Nat.{_<_}
+-- A record decoded from values tells those values again on the slots of its layout, has all that its form carries, and nothing else.
+use Rattle.cond.proofs.Kit.{_<_, _∙_, _≡_, false, List, refl, sym, true}
 use Rattle.record.specs.Record.{dateInRange}
 use Rattle.forms.specs.Carries.{Carries, carriesOf}
-use Rattle.forms.specs.Fields.Date.{dateFrom, dateKind, dateSlots, weekdayTied}
+use Rattle.forms.specs.Fields.Date.{decodeDate, dateKind, dateSlots, weekdayConsistent}
 use Rattle.forms.specs.Fields.Flag.{qualityInRange}
 use Rattle.forms.specs.Fields.Fraction.{fractionKind, fractionSlots}
-use Rattle.forms.specs.Fields.Offset.{isOffset, minutesFrom, offsetKind, offsetSlots, offsetTied}
-use Rattle.forms.specs.Fields.Position.{positionSlots, positionTied}
-use Rattle.forms.specs.Fields.Time.{leapTied, secondsTied}
-use Rattle.forms.specs.Kept.{kept}
-use Rattle.forms.specs.Needs.{hasAll}
-use Rattle.forms.specs.Places.{Row, has}
+use Rattle.forms.specs.Fields.Offset.{isOffset, decodeMinutes, offsetKind, offsetSlots, offsetConsistent}
+use Rattle.forms.specs.Fields.Position.{positionSlots, positionConsistent}
+use Rattle.forms.specs.Fields.Time.{leapConsistent, secondsConsistent}
+use Rattle.forms.specs.CarriedPart.{carriedPart}
+use Rattle.forms.specs.Required.{hasCarried}
+use Rattle.forms.specs.Places.{Layout, has}
 use Rattle.forms.specs.Slots.{Slot, Values, among, change, channel, day, daySeconds, deletion, dsp, fix, isChecksum, leap, leapSecond, lsp, minus}
 use Rattle.forms.specs.Slots.{month, notice, offsetMinutes, quality, south, summer, sync, utc, weekday, year, zone}
-use Rattle.forms.specs.Spelled.{recordFrom}
-use Rattle.forms.specs.Told.{told}
+use Rattle.forms.specs.Decode.{decode}
+use Rattle.forms.specs.Encode.{encode}
 use Rattle.forms.proofs.Agrees.{agreed, agrees, each-had}
 use Rattle.forms.proofs.Complete.{Complete}
 use Rattle.forms.proofs.Fields.Channel.{channel-carried, channel-encoded}
@@ -30,23 +27,23 @@ use Rattle.forms.proofs.Fields.Time.{followed}
 use Rattle.forms.proofs.Limits.{most}
 use Rattle.forms.proofs.Slots.{Each, _and_, _then_, derived, field-slot, fieldSlots, listed, none, ofDate, ofFlags, ofFraction, ofOffset, ofPosition}
 
--- what a reader that got so far knows of the values of a row
-pub record Read (ps : Row) (v : Values) : Type 0 where
+-- what a reader that got so far knows of the values of a layout
+pub record Read (ps : Layout) (v : Values) : Type 0 where
   pub small : (f : Slot) → has ps f ≡ true → v f < most f
-  pub dates : dateInRange (dateFrom (dateKind ps) v) ≡ true
+  pub dates : dateInRange (decodeDate (dateKind ps) v) ≡ true
   pub minutes : v offsetMinutes < 60
   pub quality : qualityInRange (v Slot.quality) ≡ true
   pub deletion : v Slot.deletion ≡ 0
-  pub weekdays : weekdayTied (has ps weekday) v ≡ true
-  pub leaps : leapTied (has ps leapSecond) v ≡ true
-  pub seconds : secondsTied (has ps daySeconds) v ≡ true
-  pub offsets : offsetTied (offsetKind ps) v ≡ true
-  pub positions : positionTied v ≡ true
+  pub weekdays : weekdayConsistent (has ps weekday) v ≡ true
+  pub leaps : leapConsistent (has ps leapSecond) v ≡ true
+  pub seconds : secondsConsistent (has ps daySeconds) v ≡ true
+  pub offsets : offsetConsistent (offsetKind ps) v ≡ true
+  pub positions : positionConsistent v ≡ true
 
-module _ (ps : Row) (c : Complete ps) (v : Values) (z : Read ps v) where
-  -- the slot tells its value again, where the row has it
+module _ (ps : Layout) (c : Complete ps) (v : Values) (z : Read ps v) where
+  -- the slot tells its value again, where the layout has it
   Again : Slot → Type 0
-  Again f = has ps f ≡ true → told (recordFrom (carriesOf ps) v) f ≡ v f
+  Again f = has ps f ≡ true → encode (decode (carriesOf ps) v) f ≡ v f
 
   small-of : (fs ks : List Slot) → agrees fs ks (has ps) ≡ true → (f : Slot) → among f fs ≡ true → among f ks ≡ true → v f < most f
   small-of fs ks h f i j = z .small f (agreed fs ks (has ps) h f i ∙ j)
@@ -56,7 +53,7 @@ module _ (ps : Row) (c : Complete ps) (v : Values) (z : Read ps v) where
   dates-again = each-had ofDate (dateSlots (dateKind ps)) (has ps) (c .date) _ (date-encoded (dateKind ps) v _ refl (z .dates))
 
   derived-again : Each Again derived
-  unfolding carriesOf Again weekdayTied leapTied secondsTied
+  unfolding carriesOf Again weekdayConsistent leapConsistent secondsConsistent
   derived-again =
       let at : (f : Slot) → among f ofDate ≡ true → Again f = listed Again ofDate dates-again in
       (λ h.
@@ -98,15 +95,15 @@ module _ (ps : Row) (c : Complete ps) (v : Values) (z : Read ps v) where
       then each-had ofPosition (positionSlots (has ps south)) (has ps) (c .position) _
       (position-encoded (has ps south) v _ refl (z .positions) (small-of ofPosition (positionSlots (has ps south)) (c .position)))
 
-  pub encoded-again : (f : Slot) → has ps f ≡ true → isChecksum f ≡ false → told (recordFrom (carriesOf ps) v) f ≡ v f
+  pub encoded-again : (f : Slot) → has ps f ≡ true → isChecksum f ≡ false → encode (decode (carriesOf ps) v) f ≡ v f
   unfolding Again
   encoded-again f h n = listed Again fieldSlots fields-again f (field-slot f n) h
 
 -- all that is carried is there, and nothing else
 
 module _ (k : Carries) (v : Values) where
-  pub decoded-has : hasAll k (recordFrom k v) ≡ true
-  unfolding hasAll
+  pub decoded-has : hasCarried k (decode k v) ≡ true
+  unfolding hasCarried
   decoded-has =
       simp (
         date-carried (k .date) v .0,
@@ -118,15 +115,15 @@ module _ (k : Carries) (v : Values) where
         flag-carried (k .summer) (v summer) (v zone) .0,
         flag-carried (k .change) (v change) (v notice) .0,
         flag-carried (k .leap) (v leap) (v notice) .0,
-        offset-carried (isOffset (k .offset)) (v minus) (minutesFrom (k .offset) v) .0,
+        offset-carried (isOffset (k .offset)) (v minus) (decodeMinutes (k .offset) v) .0,
         position-carried (k .position) v .0,
         flag-carried (k .dsp) (v dsp) 0 .0,
         flag-carried (k .lsp) (v lsp) 0 .0,
       )
 
-  pub decoded-kept : kept k (recordFrom k v) ≡ recordFrom k v
-  unfolding kept
-  decoded-kept =
+  pub decoded-carried : carriedPart k (decode k v) ≡ decode k v
+  unfolding carriedPart
+  decoded-carried =
       simp (
         date-carried (k .date) v .1,
         fraction-carried (k .fraction) v .1,
@@ -137,7 +134,7 @@ module _ (k : Carries) (v : Values) where
         flag-carried (k .summer) (v summer) (v zone) .1,
         flag-carried (k .change) (v change) (v notice) .1,
         flag-carried (k .leap) (v leap) (v notice) .1,
-        offset-carried (isOffset (k .offset)) (v minus) (minutesFrom (k .offset) v) .1,
+        offset-carried (isOffset (k .offset)) (v minus) (decodeMinutes (k .offset) v) .1,
         position-carried (k .position) v .1,
         flag-carried (k .dsp) (v dsp) 0 .1,
         flag-carried (k .lsp) (v lsp) 0 .1,

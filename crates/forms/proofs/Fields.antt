@@ -1,4 +1,4 @@
--- The laws of each field: what is decoded is encoded again, what is encoded is decoded to what is kept, and ranges.
+-- The laws of each field: what is decoded is encoded again, what is encoded is decoded to what is carried, and ranges.
 pub mod Sign
 pub mod Flag
 pub mod Time

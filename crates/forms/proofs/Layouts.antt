@@ -1,117 +1,133 @@
--- Reading lines: the row found in the bytes is a chosen row, and where no two layouts of a line fit the same bytes, a chosen
--- row that fits them is the row found.
-use mathlib.Core.Path.{_≡_, refl, sym, _∙_, ap, ap₂}
-use mathlib.Core.Bool.{Bool, true, false, _&&_, false≢true}
-use mathlib.Core.List.{List, [], _∷_, _++_}
-use Prim.Native.Nat.{ℕ, zero, suc, _+_, _≤_, _<_}
-use native.Mathlib.Omega.{arith}
-use borrow.Author.Tests.{lt-ltb, ltb-true}
-use lib.Dec.{ltb}
-use lib.ListN.{length, getD}
-use Rattle.choice.specs.Pick.{pick}
-use Rattle.choice.proofs.Tests.{both, both-hold}
-use Rattle.forms.specs.Block.{Line, chosenRow, layoutAt, rowAt}
-use Rattle.forms.specs.Form.{Form}
-use Rattle.forms.specs.Places.{Row, rowWidth, shape}
-use Rattle.forms.proofs.Append.{shape-append, width-append}
-use Rattle.forms.proofs.Clash.{clashBelow, never-both}
-use Rattle.forms.proofs.Lines.{everyLine, isChoice}
+-- A row of places: what it writes is read back, and what it accepts is written again.
+use Rattle.cond.proofs.Kit.{[], _&&_, _++_, _+_, _||_, _∙_, _∷_, _≡_, _≤_, add-comm, ap, append-assoc, arith, Bool, drop, drop-at, drop-drop, drop-length, false, false≢true, length}
+use Rattle.cond.proofs.Kit.{length-append, length-drop, length-take-le, List, not, not-true, refl, sym, take, take-append-drop, take-at, true, ℕ}
+use Rattle.cond.specs.Pick.{pick}
+use Rattle.cond.proofs.Tests.{both}
+use Rattle.spelling.specs.Spelling.{spell, spelledWidth, valueOf}
+use Rattle.spelling.proofs.SameBytes.{same-bytes, same-self}
+use Rattle.spelling.proofs.Spelling.{canSpell, isSound, spell-is, spell-length, spell-value, value-spell}
+use Rattle.forms.specs.Places.{Place, Layout, bytesOf, fits, fixed, has, isOf, part, placed, layoutWidth, shape, valueAt, values, width}
+use Rattle.forms.specs.Slots.{Slot, Values, same}
+use Rattle.forms.proofs.Slots.{same-slot, slot-self}
 
--- the form of a row that has no sum
-abbrev pub formOf : Row → Form
-formOf ps = record { size = rowWidth ps; row = ps; checksums = [] }
+abbrev pub soundPlace : Place → Bool
+soundPlace (fixed bs) = true
+soundPlace (part c f) = isSound c
 
--- which layout the reader takes for a line, and for each of the lines
-unfoldable pub choiceAt : Line → ℕ → List ℕ → ℕ
-choiceAt [] k s = 0
-choiceAt (ps ∷ []) k s = 0
-choiceAt (ps ∷ qs ∷ l) k s = pick (shape ps k s) 0 (suc (choiceAt (qs ∷ l) k s))
+unfoldable pub soundLayout : Layout → Bool
+soundLayout [] = true
+soundLayout (p ∷ ps) = soundPlace p && soundLayout ps
 
-unfoldable pub choicesAt : List Line → ℕ → List ℕ → List ℕ
-choicesAt [] k s = []
-choicesAt (l ∷ ls) k s = choiceAt l k s ∷ choicesAt ls (rowWidth (layoutAt l k s) + k) s
+-- what v tells has room
+abbrev pub roomy : Place → Values → Bool
+roomy (fixed bs) v = true
+roomy (part c f) v = canSpell c (v f)
 
-pub layout-at : (l : Line) (k : ℕ) (s : List ℕ) → layoutAt l k s ≡ getD l (choiceAt l k s) []
-unfolding layoutAt choiceAt
-layout-at [] k s = refl
-layout-at (ps ∷ []) k s = refl
-layout-at (ps ∷ qs ∷ l) k s = go (shape ps k s) (layout-at (qs ∷ l) k s)
+unfoldable pub roomyLayout : Layout → Values → Bool
+roomyLayout [] v = true
+roomyLayout (p ∷ ps) v = roomy p v && roomyLayout ps v
+
+pub placed-length : (p : Place) (v : Values) → soundPlace p ≡ true → roomy p v ≡ true → length (placed p v) ≡ width p
+placed-length (fixed bs) v h r = refl
+placed-length (part c f) v h r = spell-length (v f) c h r
+
+pub bytes-length : (ps : Layout) (v : Values) → soundLayout ps ≡ true → roomyLayout ps v ≡ true → length (bytesOf ps v) ≡ layoutWidth ps
+unfolding bytesOf layoutWidth soundLayout roomyLayout
+bytes-length [] v h r = refl
+bytes-length (p ∷ ps) v h r =
+    let a = both (soundPlace p) (soundLayout ps) h in
+    let b = both (roomy p v) (roomyLayout ps v) r in
+    length-append (placed p v) (bytesOf ps v) ∙ omega (arith, placed-length p v (a .0) (b .0), bytes-length ps v (a .1) (b .1))
+
+placed-fits : (p : Place) (v : Values) → soundPlace p ≡ true → roomy p v ≡ true → fits p (placed p v) ≡ true
+placed-fits (fixed bs) v h r = same-self bs
+placed-fits (part c f) v h r = spell-is (v f) c h r
+
+-- what v tells of the layout's slots
+abbrev pub shown : Layout → Values → Values
+shown ps v f = pick (has ps f) (v f) 0
+
+placed-value : (p : Place) (ps : Layout) (v : Values) (f : Slot) (n : ℕ) → soundPlace p ≡ true → roomy p v ≡ true → n ≡ shown ps v f
+    → pick (isOf f p) (valueAt p (placed p v)) n ≡ pick (isOf f p || has ps f) (v f) 0
+placed-value (fixed bs) ps v f n h r e = e
+placed-value (part c g) ps v f n h r e = go (same f g) refl
   where
-    go : (t : Bool) → layoutAt (qs ∷ l) k s ≡ getD (qs ∷ l) (choiceAt (qs ∷ l) k s) []
-        → pick t ps (layoutAt (qs ∷ l) k s) ≡ getD (ps ∷ qs ∷ l) (pick t 0 (suc (choiceAt (qs ∷ l) k s))) []
-    go true e = refl
-    go false e = e
+    go : (t : Bool) → same f g ≡ t → pick t (valueOf c (spell c (v g))) n ≡ pick (t || has ps f) (v f) 0
+    go true q = spell-value (v g) c h r ∙ ap v (sym (same-slot f g q))
+    go false q = e
 
-pub row-at : (ls : List Line) (k : ℕ) (s : List ℕ) → rowAt ls k s ≡ chosenRow ls (choicesAt ls k s)
-unfolding rowAt choicesAt chosenRow
-row-at [] k s = refl
-row-at (l ∷ ls) k s = ap₂ (λ (a b : Row). a ++ b) (layout-at l k s) (row-at ls (rowWidth (layoutAt l k s) + k) s)
+piece : (front x back s : List ℕ) (k w : ℕ) → length front ≡ k → length x ≡ w → s ≡ front ++ (x ++ back) → take w (drop k s) ≡ x
+piece front x back s k w l m e = ap (λ (t : List ℕ). take w (drop k t)) e ∙ ap (take w) (drop-at front (x ++ back) k l) ∙ take-at x back w m
 
-abbrev pub nonempty : Line → Bool
-nonempty l = ltb 0 (length l)
+-- what a layout wrote is read back, shape and values
+pub layout-read : (ps : Layout) (k : ℕ) (v : Values) (front back s : List ℕ) → length front ≡ k → s ≡ front ++ (bytesOf ps v ++ back)
+    → soundLayout ps ≡ true → roomyLayout ps v ≡ true → (shape ps k s ≡ true) × ((f : Slot) → values ps k s f ≡ shown ps v f)
+unfolding bytesOf soundLayout roomyLayout values shape has
+layout-read [] k v front back s l e h r = (refl, λ f. refl)
+layout-read (p ∷ ps) k v front back s l e h r =
+    let a = both (soundPlace p) (soundLayout ps) h in
+    let b = both (roomy p v) (roomyLayout ps v) r in
+    let m = placed-length p v (a .0) (b .0) in
+    let g : take (width p) (drop k s) ≡ placed p v = piece front (placed p v) (bytesOf ps v ++ back) s k (width p) l m (e ∙ simp append-assoc) in
+    let next : length (front ++ placed p v) ≡ width p + k = length-append front (placed p v) ∙ omega arith in
+    let there = layout-read ps (width p + k) v (front ++ placed p v) back s next (e ∙ simp append-assoc) (a .1) (b .1) in (
+      simp (g, placed-fits p v (a .0) (b .0), there .0),
+      λ f. ap (λ (x : List ℕ). pick (isOf f p) (valueAt p x) (values ps (width p + k) s f)) g
+          ∙ placed-value p ps v f (values ps (width p + k) s f) (a .0) (b .0) (there .1 f),
+    )
 
-pub choice-at : (l : Line) (k : ℕ) (s : List ℕ) → nonempty l ≡ true → choiceAt l k s < length l
-unfolding choiceAt
-choice-at [] k s h = ltb-true 0 0 h
-choice-at (ps ∷ []) k s h = omega arith
-choice-at (ps ∷ qs ∷ l) k s h = go (shape ps k s) (choice-at (qs ∷ l) k s (lt-ltb 0 (suc (length l)) (omega arith)))
-  where
-    go : (t : Bool) → choiceAt (qs ∷ l) k s < suc (length l) → pick t 0 (suc (choiceAt (qs ∷ l) k s)) < suc (suc (length l))
-    go true e = omega arith
-    go false e = omega arith
+-- no slot has two places
+abbrev pub apart : Place → Layout → Bool
+apart (fixed bs) ps = true
+apart (part c f) ps = not (has ps f)
 
-pub choices-at : (ls : List Line) (k : ℕ) (s : List ℕ) → everyLine nonempty ls ≡ true → isChoice ls (choicesAt ls k s) ≡ true
-unfolding everyLine isChoice choicesAt
-choices-at [] k s h = refl
-choices-at (l ∷ ls) k s h =
-    let e = both (nonempty l) (everyLine nonempty ls) h in
-    both-hold _ _ (lt-ltb (choiceAt l k s) (length l) (choice-at l k s (e .0))) (choices-at ls (rowWidth (layoutAt l k s) + k) s (e .1))
-
--- no two layouts of a line fit the same bytes
-
-unfoldable pub clashesWith : Row → Line → Bool
-clashesWith ps [] = true
-clashesWith ps (qs ∷ l) = clashBelow (rowWidth qs) ps qs && clashesWith ps l
-
-unfoldable pub isDistinct : Line → Bool
-isDistinct [] = true
-isDistinct (ps ∷ l) = clashesWith ps l && isDistinct l
+unfoldable pub apartLayout : Layout → Bool
+apartLayout [] = true
+apartLayout (p ∷ ps) = apart p ps && apartLayout ps
 
 module _ (k : ℕ) (s : List ℕ) where
-  other-fits : (ps : Row) (l : Line) (c : ℕ) → clashesWith ps l ≡ true → c < length l → shape (getD l c []) k s ≡ true
-      → k + rowWidth (getD l c []) ≤ length s → shape ps k s ≡ true → ⊥
-  unfolding clashesWith
-  other-fits ps [] c d l h m g = omega (arith, l)
-  other-fits ps (qs ∷ l) zero d b h m g = never-both (rowWidth qs) ps qs k s (both (clashBelow (rowWidth qs) ps qs) (clashesWith ps l) d .0) m g h
-  other-fits ps (qs ∷ l) (suc c) d b h m g = other-fits ps l c (both (clashBelow (rowWidth qs) ps qs) (clashesWith ps l) d .1) (omega arith) h m g
+  pub piece-length : (w : ℕ) → k + w ≤ length s → length (take w (drop k s)) ≡ w
+  piece-length w h = length-take-le w (drop k s) (omega (arith, length-drop k s))
 
-  layout-found : (l : Line) (c : ℕ) → isDistinct l ≡ true → c < length l → shape (getD l c []) k s ≡ true
-      → k + rowWidth (getD l c []) ≤ length s → layoutAt l k s ≡ getD l c []
-  unfolding isDistinct layoutAt
-  layout-found [] c d b h m = absurd (omega (arith, b))
-  layout-found (ps ∷ []) zero d b h m = refl
-  layout-found (ps ∷ []) (suc c) d b h m = absurd (omega arith)
-  layout-found (ps ∷ qs ∷ l) zero d b h m = simp h
-  layout-found (ps ∷ qs ∷ l) (suc c) d b h m =
-      let e = both (clashesWith ps (qs ∷ l)) (isDistinct (qs ∷ l)) d in
-      go (shape ps k s) refl (other-fits ps (qs ∷ l) c (e .0) (omega arith) h m) (layout-found (qs ∷ l) c (e .1) (omega arith) h m)
+  place-write : (p : Place) (ps : Layout) (v : Values) → soundPlace p ≡ true → roomy p v ≡ true → fits p (take (width p) (drop k s)) ≡ true
+      → ((f : Slot) → has (p ∷ ps) f ≡ true → v f ≡ values (p ∷ ps) k s f) → placed p v ≡ take (width p) (drop k s)
+  unfolding has values
+  place-write (fixed bs) ps v o r h e = sym (same-bytes _ _ h)
+  place-write (part c g) ps v o r h e =
+      let x : List ℕ = take (spelledWidth c) (drop k s) in
+      let q : v g ≡ valueOf c x = e g (simp (slot-self g)) ∙ simp (slot-self g) in
+      ap (spell c) q ∙ value-spell x c o h (ap (canSpell c) (sym q) ∙ r)
+
+  -- the layout behind the first place tells its own slots
+  pub behind : (p : Place) (ps : Layout) (f : Slot) → apart p ps ≡ true → has ps f ≡ true
+      → (has (p ∷ ps) f ≡ true) × (values (p ∷ ps) k s f ≡ values ps (width p + k) s f)
+  unfolding has values
+  behind (fixed bs) ps f a h = (h, refl)
+  behind (part c g) ps f a h = go (same f g) refl
     where
-      go : (t : Bool) → shape ps k s ≡ t → (shape ps k s ≡ true → ⊥) → layoutAt (qs ∷ l) k s ≡ getD (qs ∷ l) c []
-          → pick t ps (layoutAt (qs ∷ l) k s) ≡ getD (qs ∷ l) c []
-      go true e n i = absurd (n e)
-      go false e n i = i
+      go : (t : Bool) → same f g ≡ t
+          → ((t || has ps f) ≡ true)
+          × (pick t (valueOf c (take (spelledWidth c) (drop k s))) (values ps (spelledWidth c + k) s f) ≡ values ps (spelledWidth c + k) s f)
+      go true q = absurd (false≢true (sym (not-true (has ps g) a) ∙ ap (has ps) (sym (same-slot f g q)) ∙ h))
+      go false q = (h, refl)
 
-pub row-found : (ls : List Line) (cs : List ℕ) (k : ℕ) (s : List ℕ) → everyLine isDistinct ls ≡ true → isChoice ls cs ≡ true
-    → shape (chosenRow ls cs) k s ≡ true → k + rowWidth (chosenRow ls cs) ≤ length s → rowAt ls k s ≡ chosenRow ls cs
-unfolding everyLine isChoice chosenRow rowAt
-row-found [] [] k s d o h m = refl
-row-found [] (c ∷ cs) k s d o h m = refl
-row-found (l ∷ ls) [] k s d o h m = absurd (false≢true o)
-row-found (l ∷ ls) (c ∷ cs) k s d o h m =
-    let x = both (isDistinct l) (everyLine isDistinct ls) d in
-    let y = both (ltb c (length l)) (isChoice ls cs) o in
-    let z = both (shape (getD l c []) k s) (shape (chosenRow ls cs) (rowWidth (getD l c []) + k) s) (sym (shape-append (getD l c []) (chosenRow ls cs) k s) ∙ h) in
-    let w = width-append (getD l c []) (chosenRow ls cs) in
-    let here = layout-found k s l c (x .0) (ltb-true c (length l) (y .0)) (z .0) (omega arith) in
-    let there = row-found ls cs (rowWidth (getD l c []) + k) s (x .1) (y .1) (z .1) (omega arith) in
-    ap (λ (a : Row). a ++ rowAt ls (rowWidth a + k) s) here ∙ ap (λ (b : Row). getD l c [] ++ b) there
+-- what a layout accepts, its values spell again
+pub layout-write : (ps : Layout) (k : ℕ) (s : List ℕ) (v : Values) → soundLayout ps ≡ true → roomyLayout ps v ≡ true → apartLayout ps ≡ true → shape ps k s ≡ true
+    → k + layoutWidth ps ≡ length s → ((f : Slot) → has ps f ≡ true → v f ≡ values ps k s f) → bytesOf ps v ≡ drop k s
+unfolding bytesOf layoutWidth apartLayout shape soundLayout roomyLayout
+layout-write [] k s v o r a h l e =
+    let q : k ≡ length s = omega arith in
+    sym (ap (λ (n : ℕ). drop n s) q ∙ drop-length s)
+layout-write (p ∷ ps) k s v o r a h l e =
+    let i = both (soundPlace p) (soundLayout ps) o in
+    let j = both (roomy p v) (roomyLayout ps v) r in
+    let q = both (apart p ps) (apartLayout ps) a in
+    let b = both (fits p (take (width p) (drop k s))) (shape ps (width p + k) s) h in
+    let here = place-write k s p ps v (i .0) (j .0) (b .0) e in
+    let there =
+    layout-write ps (width p + k) s v (i .1) (j .1) (q .1) (b .1) (omega arith) (λ f y. let z = behind k s p ps f (q .0) y in e f (z .0) ∙ z .1) in
+    let boundary : take (width p) (drop k s) ++ drop (width p + k) s ≡ drop k s =
+    ap (λ (n : ℕ). take (width p) (drop k s) ++ drop n s) (add-comm (width p) k)
+    ∙ ap (λ (t : List ℕ). take (width p) (drop k s) ++ t) (sym (drop-drop (width p) k s))
+    ∙ take-append-drop (width p) (drop k s) in
+    simp (here, there) boundary

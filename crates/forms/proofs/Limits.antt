@@ -1,10 +1,8 @@
 -- How many numbers each slot has: for a good record, and for the places that tell it.
-use mathlib.Core.List.{List, [], _∷_}
-use Prim.Native.Nat.{ℕ}
-use lib.ListN.{getD}
+use Rattle.cond.proofs.Kit.{[], _∷_, getD, List, ℕ}
 use Rattle.forms.specs.Slots.{Slot, slotNumber}
 
--- a good record tells less than the bound, and a row may spell so many numbers at most
+-- a good record tells less than the bound, and a layout may spell so many numbers at most
 pub record Limit : Type 0 where
   pub bound : ℕ
   pub most : ℕ

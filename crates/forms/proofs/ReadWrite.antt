@@ -1,45 +1,39 @@
 -- Accepted and written again: over any sound form, the writer takes the record and leaves the same bytes.
-use mathlib.Core.Path.{_≡_, refl, sym, _∙_, ap, subst}
-use mathlib.Core.Bool.{Bool, true, false}
-use mathlib.Core.List.{List}
-use Prim.Native.Nat.{ℕ, _+_}
-use native.Mathlib.Omega.{arith}
-use borrow.Author.Tests.{eqb-true, ltb-true}
-use lib.ListN.{length, getD}
-use Rattle.choice.proofs.Tests.{both, both-hold}
+use Rattle.cond.proofs.Kit.{_+_, _∙_, _≡_, ap, arith, Bool, eqb-true, false, getD, length, List, ltb-true, refl, subst, sym, true, ℕ}
+use Rattle.cond.proofs.Tests.{both, both-hold}
 use Rattle.record.specs.Record.{inRange, isGood, zoneAgrees}
 use Rattle.record.specs.declared.Record.{Record}
 use Rattle.record.specs.declared.answer.Reading.the-variants as reading
 use Rattle.forms.specs.Carries.{carriesOf}
 use Rattle.forms.specs.Checksum.{Checksum, checksumOf, totalBy}
-use Rattle.forms.specs.Fields.Offset.{offsetKind, offsetTied}
-use Rattle.forms.specs.Fields.Position.{positionTied}
-use Rattle.forms.specs.Form.{Form, bytesBy, carries, isExpressible, numberTests, numbersInRange, rangeTests, ranges, readBy, signsTied, tieTests, ties, valuesBy}
-use Rattle.forms.specs.Kept.{kept}
-use Rattle.forms.specs.Needs.{hasAll}
-use Rattle.forms.specs.Places.{allWorded, bytesOf, has, rowWidth}
+use Rattle.forms.specs.Fields.Offset.{offsetKind, offsetConsistent}
+use Rattle.forms.specs.Fields.Position.{positionConsistent}
+use Rattle.forms.specs.Form.{Form, bytesBy, carries, isExpressible, numberTests, numbersInRange, rangeTests, ranges, readBy, signsConsistent, consistencyTests, consistent, valuesBy}
+use Rattle.forms.specs.CarriedPart.{carriedPart}
+use Rattle.forms.specs.Required.{hasCarried}
+use Rattle.forms.specs.Places.{hasWords, bytesOf, has, layoutWidth}
 use Rattle.forms.specs.Slots.{Slot, Values, hour, isChecksum, minute, offsetMinutes, second}
-use Rattle.forms.specs.Spelled.{recordFrom}
-use Rattle.forms.specs.Told.{told}
+use Rattle.forms.specs.Decode.{decode}
+use Rattle.forms.specs.Encode.{encode}
 use Rattle.forms.proofs.Accepted.{Accepted, accepted}
 use Rattle.forms.proofs.All.{test-at}
-use Rattle.forms.proofs.Bounds.{good, told-lt}
-use Rattle.forms.proofs.ChecksumList.{sums-again}
-use Rattle.forms.proofs.Checksums.{range-alike, unsummedFrom}
-use Rattle.forms.proofs.Encoded.{Read, decoded-has, decoded-kept, encoded-again}
-use Rattle.forms.proofs.Room.{row-room}
-use Rattle.forms.proofs.Roomy.{row-worded}
-use Rattle.forms.proofs.RowLimits.{row-alike, unplaced, values-lt}
-use Rattle.forms.proofs.Rows.{roomyRow, row-write}
+use Rattle.forms.proofs.Bounds.{good, encode-lt}
+use Rattle.forms.proofs.ChecksumList.{checksums-again}
+use Rattle.forms.proofs.Checksums.{range-alike, uncheckedFrom}
+use Rattle.forms.proofs.Encoded.{Read, decoded-has, decoded-carried, encoded-again}
+use Rattle.forms.proofs.Room.{layout-room}
+use Rattle.forms.proofs.Roomy.{layout-has-words}
+use Rattle.forms.proofs.LayoutLimits.{layout-alike, unplaced, values-lt}
+use Rattle.forms.proofs.Layouts.{roomyLayout, layout-write}
 use Rattle.forms.proofs.Sound.{SoundForm}
-use Rattle.forms.proofs.WriteRead.{own-value, told-roomy, written}
+use Rattle.forms.proofs.WriteRead.{own-value, encode-roomy, written}
 
 pub record Rewritten (d : Form) (s : List ℕ) (r : Record) : Type 0 where
   pub good : isGood r ≡ true
-  pub complete : hasAll (carries d) r ≡ true
-  pub spellable : isExpressible (d .row) (told r) ≡ true
-  pub same-bytes : bytesBy d (told r) ≡ s
-  pub nothing-else : kept (carries d) r ≡ r
+  pub complete : hasCarried (carries d) r ≡ true
+  pub spellable : isExpressible (d .layout) (encode r) ≡ true
+  pub same-bytes : bytesBy d (encode r) ≡ s
+  pub nothing-else : carriedPart (carries d) r ≡ r
 
 module _ (d : Form) (o : SoundForm d) (s : List ℕ) (r : Record) (a : Accepted d s r) where
   -- what the string tells, and the record that it spells
@@ -47,9 +41,9 @@ module _ (d : Form) (o : SoundForm d) (s : List ℕ) (r : Record) (a : Accepted 
   v = valuesBy d s
 
   q : Record
-  q = recordFrom (carries d) (valuesBy d s)
+  q = decode (carries d) (valuesBy d s)
 
-  fills : 0 + rowWidth (d .row) ≡ length s
+  fills : 0 + layoutWidth (d .layout) ≡ length s
   fills = omega (arith, o .sized, a .long)
 
   ranged : (i : ℕ) → getD (rangeTests (carries d) (valuesBy d s)) i true ≡ true
@@ -60,67 +54,67 @@ module _ (d : Form) (o : SoundForm d) (s : List ℕ) (r : Record) (a : Accepted 
   unfolding numbersInRange
   numbered = test-at (numberTests (valuesBy d s)) (ranged 2)
 
-  tied : (i : ℕ) → getD (tieTests (carries d) (valuesBy d s)) i true ≡ true
-  unfolding ties
-  tied = test-at (tieTests (carries d) (valuesBy d s)) (a .tied)
+  isConsistent : (i : ℕ) → getD (consistencyTests (carries d) (valuesBy d s)) i true ≡ true
+  unfolding consistent
+  isConsistent = test-at (consistencyTests (carries d) (valuesBy d s)) (a .isConsistent)
 
   good-record : isGood q ≡ true
   unfolding q isGood
-  good-record = both-hold (inRange q) (zoneAgrees q) (ranged 0) (tied 4)
+  good-record = both-hold (inRange q) (zoneAgrees q) (ranged 0) (isConsistent 4)
 
-  known : Read (d .row) v
-  unfolding v q carriesOf signsTied
+  known : Read (d .layout) v
+  unfolding v q carriesOf signsConsistent
   known =
-      let signs = both (offsetTied (offsetKind (d .row)) (valuesBy d s)) (positionTied (valuesBy d s)) (tied 3) in
+      let signs = both (offsetConsistent (offsetKind (d .layout)) (valuesBy d s)) (positionConsistent (valuesBy d s)) (isConsistent 3) in
       record {
-        small = λ f h. omega (arith, values-lt (d .row) 0 s f (o .rowSound) (a .shaped) (omega (arith, fills)) h, o .rowComplete .meant f);
+        small = λ f h. omega (arith, values-lt (d .layout) 0 s f (o .layoutSound) (a .shaped) h, o .layoutComplete .meant f);
         dates = good q good-record .date;
         minutes = ltb-true (valuesBy d s offsetMinutes) 60 (numbered 0);
         quality = numbered 1;
         deletion = eqb-true (valuesBy d s Slot.deletion) 0 (numbered 2);
-        weekdays = tied 0;
-        leaps = tied 1;
-        seconds = tied 2;
+        weekdays = isConsistent 0;
+        leaps = isConsistent 1;
+        seconds = isConsistent 2;
         offsets = signs .0;
         positions = signs .1;
       }
 
-  encoded : (f : Slot) → has (d .row) f ≡ true → isChecksum f ≡ false → v f ≡ told q f
+  encoded : (f : Slot) → has (d .layout) f ≡ true → isChecksum f ≡ false → v f ≡ encode q f
   unfolding v q
-  encoded f h n = sym (encoded-again (d .row) (o .rowComplete) v known f h n)
+  encoded f h n = sym (encoded-again (d .layout) (o .layoutComplete) v known f h n)
 
-  pub room : roomyRow (d .row) (valuesBy d s) ≡ true
+  pub room : roomyLayout (d .layout) (valuesBy d s) ≡ true
   unfolding v
   room =
-      row-room (d .checksums) (d .row) 0 s v (o .rowSound) (o .rowWide) (o .rowApart) (a .shaped) (omega (arith, fills)) (λ f h. refl)
-      (λ f h n. omega (arith, encoded f h n, told-lt q (good q good-record) f))
+      layout-room (d .checksums) (d .layout) 0 s v (o .layoutSound) (o .layoutWide) (o .layoutApart) (a .shaped) (λ f h. refl)
+      (λ f h n. omega (arith, encoded f h n, encode-lt q (good q good-record) f))
 
-  pub own : bytesOf (d .row) (valuesBy d s) ≡ s
-  own = row-write (d .row) 0 s (valuesBy d s) (o .rowSound) room (o .rowApart) (a .shaped) fills (λ f h. refl)
+  pub own : bytesOf (d .layout) (valuesBy d s) ≡ s
+  own = layout-write (d .layout) 0 s (valuesBy d s) (o .layoutSound) room (o .layoutApart) (a .shaped) fills (λ f h. refl)
 
-  worded-again : allWorded (d .row) (told q) ≡ true
+  has-words-again : hasWords (d .layout) (encode q) ≡ true
   unfolding v
-  worded-again = row-worded (d .checksums) (d .row) v (told q) (o .rowWide) encoded room
+  has-words-again = layout-has-words (d .checksums) (d .layout) v (encode q) (o .layoutWide) encoded room
 
-  again : isExpressible (d .row) (told q) ≡ true
+  again : isExpressible (d .layout) (encode q) ≡ true
   unfolding v q isExpressible
-  again = simp (unplaced (d .row) 0 s hour, unplaced (d .row) 0 s minute, unplaced (d .row) 0 s second, worded-again)
+  again = simp (unplaced (d .layout) 0 s hour, unplaced (d .layout) 0 s minute, unplaced (d .layout) 0 s second, has-words-again)
 
   -- the checksums of the record's bytes are those of the string
-  same-sum : (c : Checksum) → unsummedFrom (d .row) (c .from) (c .count) ≡ true → checksumOf c (bytesOf (d .row) (told q)) ≡ checksumOf c s
+  same-checksum : (c : Checksum) → uncheckedFrom (d .layout) (c .from) (c .count) ≡ true → checksumOf c (bytesOf (d .layout) (encode q)) ≡ checksumOf c s
   unfolding v
-  same-sum c u =
+  same-checksum c u =
       ap (totalBy (c .rule))
-      (range-alike (told q) v (d .row) (c .from) (c .count) (λ f h n. sym (encoded f h n)) (o .rowSound) (told-roomy d o q good-record again) room u)
+      (range-alike (encode q) v (d .layout) (c .from) (c .count) (λ f h n. sym (encoded f h n)) (o .layoutSound) (encode-roomy d o q good-record again) room u)
       ∙ ap (checksumOf c) own
 
   -- with them the record tells what the string tells
-  summed-again : (f : Slot) → has (d .row) f ≡ true → written d q f ≡ v f
+  checked-again : (f : Slot) → has (d .layout) f ≡ true → written d q f ≡ v f
   unfolding v
-  summed-again f h = go (isChecksum f) refl
+  checked-again f h = go (isChecksum f) refl
     where
       go : (b : Bool) → isChecksum f ≡ b → written d q f ≡ valuesBy d s f
-      go true e = sums-again (d .row) (d .checksums) s (bytesOf (d .row) (told q)) v (told q) (o .sumsSound) same-sum (a .summed) f (o .summed f e h)
+      go true e = checksums-again (d .layout) (d .checksums) s (bytesOf (d .layout) (encode q)) v (encode q) (o .checksumsPass) same-checksum (a .checked) f (o .checked f e h)
       go false e = own-value d o q good-record again f e ∙ sym (encoded f h e)
 
   rewritten : Rewritten d s q
@@ -130,8 +124,8 @@ module _ (d : Form) (o : SoundForm d) (s : List ℕ) (r : Record) (a : Accepted 
         good = good-record;
         complete = decoded-has (carries d) (valuesBy d s);
         spellable = again;
-        same-bytes = row-alike (d .row) _ v summed-again ∙ own;
-        nothing-else = decoded-kept (carries d) (valuesBy d s);
+        same-bytes = layout-alike (d .layout) _ v checked-again ∙ own;
+        nothing-else = decoded-carried (carries d) (valuesBy d s);
       }
 
 -- an accepted input is a good record that the writer takes, with nothing else in it, and written again is the same bytes

@@ -1,16 +1,9 @@
 -- Slots are told apart by their numbers, and a claim of all slots is one of each in a list.
-use mathlib.Core.Path.{_≡_, refl, sym, _∙_, ap, subst}
-use mathlib.Core.Bool.{Bool, true, false, _&&_, false≢true}
-use mathlib.Core.List.{List, [], _∷_, _++_}
-use mathlib.Core.Logic.{_⊎_, inl, inr, ⊎-elim}
-use Prim.Native.Nat.{ℕ, zero, suc}
-use borrow.Author.Tests.{eqb-true, eq-eqb}
-use lib.ListN.{getD}
-use Rattle.choice.proofs.Tests.{both, either, or-left, or-right}
-use Rattle.forms.specs.Slots.{Slot, altitude, among, change, channel, day, daySeconds, deletion, dsp, fix, halfHour, hour, isChecksum}
-use Rattle.forms.specs.Slots.{latitudeDegrees, latitudePart, leap, leapSecond, longitudeDegrees, longitudePart, lsp, minus, minute, month, notice}
-use Rattle.forms.specs.Slots.{ofChecksum, offsetHours, offsetMinutes, ordinal, quality, same, second, slotNumber, south, sum, summer, sync}
-use Rattle.forms.specs.Slots.{tenMillionth, thousandth, utc, weekday, west, year, zone}
+use Rattle.cond.proofs.Kit.{[], _&&_, _++_, _∙_, _∷_, _≡_, _⊎_, ap, Bool, eq-eqb, eqb-true, false, false≢true, getD, inl, inr, List, refl, subst, suc, sym, true, zero, ℕ, ⊎-elim}
+use Rattle.cond.proofs.Tests.{both, either, or-left, or-right}
+use Rattle.forms.specs.Slots.{Slot, altitude, among, change, channel, day, daySeconds, deletion, dsp, fix, halfHour, hour, isChecksum, latitudeDegrees, latitudePart, leap}
+use Rattle.forms.specs.Slots.{leapSecond, longitudeDegrees, longitudePart, lsp, minus, minute, month, notice, ofChecksum, offsetHours, offsetMinutes, ordinal, quality, same}
+use Rattle.forms.specs.Slots.{second, slotNumber, south, checksum, summer, sync, tenMillionth, thousandth, utc, weekday, west, year, zone}
 
 -- the slots by what they tell, in the order of their numbers
 
@@ -83,7 +76,7 @@ slot-at west = refl
 slot-at longitudeDegrees = refl
 slot-at longitudePart = refl
 slot-at altitude = refl
-slot-at sum = refl
+slot-at checksum = refl
 
 pub same-slot : (f g : Slot) → same f g ≡ true → f ≡ g
 same-slot f g h = sym (slot-at f) ∙ ap (λ (n : ℕ). getD slots n hour) (eqb-true (slotNumber f) (slotNumber g) h) ∙ slot-at g

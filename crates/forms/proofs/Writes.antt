@@ -1,18 +1,13 @@
--- The writer's answer, test by test, over any form, in the order 7, 8, 9, 10; the writers of one length have it from `admitted` of layout.
-use mathlib.Core.Path.{_≡_, sym, _∙_}
-use mathlib.Core.Bool.{true, false}
-use mathlib.Core.List.{List, _++_}
-use Prim.Native.Nat.{ℕ, _≤_, _<_}
-use borrow.Author.Tests.{le-leb, lt-leb}
-use lib.ListN.{length, drop}
+-- The writer's answer, test by test, over any form, in the order 7, 8, 9, 10; the writers of one length have it from `admitted` of places.
+use Rattle.cond.proofs.Kit.{_++_, _<_, _∙_, _≡_, _≤_, drop, false, le-leb, length, List, lt-leb, sym, true, ℕ}
 use Rattle.record.specs.Record.{isGood}
 use Rattle.record.specs.declared.Record.{Record}
 use Rattle.record.specs.declared.answer.Writing.the-variants as writing
 use Rattle.record.specs.declared.refusal.Refusal.{Refusal}
 use Rattle.record.specs.declared.refusal.Refusal.the-variants as refusal
 use Rattle.forms.specs.Form.{Form, Wrote, bytesBy, carries, isExpressible, writeBy}
-use Rattle.forms.specs.Needs.{hasAll}
-use Rattle.forms.specs.Told.{told}
+use Rattle.forms.specs.Required.{hasCarried}
+use Rattle.forms.specs.Encode.{encode}
 use Rattle.forms.proofs.Keeps.{left-refused, left-written}
 
 module _ (d : Form) (r : Record) (o : List ℕ) where
@@ -24,21 +19,21 @@ module _ (d : Form) (r : Record) (o : List ℕ) where
   bad-record g = refused refusal.BadRecord (simp g)
 
   module _ (g : isGood r ≡ true) where
-    pub missing-field : hasAll (carries d) r ≡ false → Wrote d r (writing.Refused refusal.MissingField) o o
+    pub missing-field : hasCarried (carries d) r ≡ false → Wrote d r (writing.Refused refusal.MissingField) o o
     unfolding writeBy
     missing-field h = refused refusal.MissingField (simp (g, h))
 
-    module _ (h : hasAll (carries d) r ≡ true) where
-      pub not-expressible : isExpressible (d .row) (told r) ≡ false → Wrote d r (writing.Refused refusal.NotExpressible) o o
+    module _ (h : hasCarried (carries d) r ≡ true) where
+      pub not-expressible : isExpressible (d .layout) (encode r) ≡ false → Wrote d r (writing.Refused refusal.NotExpressible) o o
       unfolding writeBy
       not-expressible w = refused refusal.NotExpressible (simp (g, h, w))
 
-      module _ (w : isExpressible (d .row) (told r) ≡ true) where
+      module _ (w : isExpressible (d .layout) (encode r) ≡ true) where
         pub short-buffer : length o < d .size → Wrote d r (writing.Refused refusal.ShortBuffer) o o
         unfolding writeBy
         short-buffer l = refused refusal.ShortBuffer (simp (g, h, w, lt-leb (d .size) (length o) l))
 
-        pub written-as : (after : List ℕ) → d .size ≤ length o → after ≡ bytesBy d (told r) ++ drop (d .size) o
+        pub written-as : (after : List ℕ) → d .size ≤ length o → after ≡ bytesBy d (encode r) ++ drop (d .size) o
             → Wrote d r (writing.Written (d .size)) o after
         unfolding writeBy
         written-as after l e =

@@ -5,7 +5,7 @@ use Prim.Native.Nat.{ℕ, _+_}
 use Prim.Native.String.{String}
 use lib.Dec.{eqb, leb}
 use lib.ListN.{length, getD}
-use Rattle.choice.specs.Pick.{pick}
+use Rattle.cond.specs.Pick.{pick}
 use Rattle.spelling.specs.Bytes.{text}
 use Rattle.spelling.specs.Spelling.{digits, word}
 use Rattle.record.specs.declared.Record.{Record}
@@ -18,21 +18,21 @@ use Rattle.forms.specs.Fields.Flag.{flagChoice}
 use Rattle.forms.specs.Fields.Fraction.{fractionChoice}
 use Rattle.forms.specs.Fields.Offset.{offsetChoice}
 use Rattle.forms.specs.Fields.Position.{positionChoice}
-use Rattle.forms.specs.Form.{Form, readRow}
-use Rattle.forms.specs.Places.{Row, letter, lit, one, part, rowWidth, shape, two}
+use Rattle.forms.specs.Form.{Form, readLayout}
+use Rattle.forms.specs.Places.{Layout, letter, lit, one, part, layoutWidth, shape, two}
 use Rattle.forms.specs.Slots.{Slot, altitude, change, channel, day, dsp, fix, hour, latitudeDegrees, latitudePart, leap, longitudeDegrees, longitudePart, lsp, minus, minute, month, offsetHours, offsetMinutes, ordinal, second, south, summer, sync, tenMillionth, thousandth, utc, west, year}
 
--- the layouts of a line's value, each a row
+-- the variants of a line's value, each a layout
 abbrev pub Line : Type 0
-Line = List Row
+Line = List Layout
 
 -- a key with its values, each closed by LF
-abbrev pub line : String → List Row → Line
+abbrev pub line : String → List Layout → Line
 line key [] = []
 line key (ps ∷ pss) = (lit key ∷ ps ++ (lit "\n" ∷ [])) ∷ line key pss
 
 -- "`-` is absent"
-abbrev pub absent : Row
+abbrev pub absent : Layout
 absent = lit "-" ∷ []
 
 -- "(`yes`/`no`)"
@@ -79,18 +79,18 @@ blockLines =
 
 -- reading
 
--- the first layout of a line that fits the bytes from k on, else its last one
-unfoldable pub layoutAt : Line → ℕ → List ℕ → Row
+-- the first variant of a line that fits the bytes from k on, else its last one
+unfoldable pub variantAt : Line → ℕ → List ℕ → Layout
+variantAt [] k s = []
+variantAt (ps ∷ []) k s = ps
+variantAt (ps ∷ qs ∷ pss) k s = pick (shape ps k s) ps (variantAt (qs ∷ pss) k s)
+
+-- the layout that lines have in these bytes, each line where the one before it ends
+unfoldable pub layoutAt : List Line → ℕ → List ℕ → Layout
 layoutAt [] k s = []
-layoutAt (ps ∷ []) k s = ps
-layoutAt (ps ∷ qs ∷ pss) k s = pick (shape ps k s) ps (layoutAt (qs ∷ pss) k s)
+layoutAt (l ∷ ls) k s = variantAt l k s ++ layoutAt ls (layoutWidth (variantAt l k s) + k) s
 
--- the row that lines have in these bytes, each line where the one before it ends
-unfoldable pub rowAt : List Line → ℕ → List ℕ → Row
-rowAt [] k s = []
-rowAt (l ∷ ls) k s = layoutAt l k s ++ rowAt ls (rowWidth (layoutAt l k s) + k) s
-
--- an edition of the block: its lines, which layout of each a record takes, and the least and the greatest number of bytes
+-- an edition of the block: its lines, which variant of each a record takes, and the least and the greatest number of bytes
 pub record Edition : Type 0 where
   pub lines : List Line
   pub choices : Record → List ℕ
@@ -101,7 +101,7 @@ pub record Edition : Type 0 where
 unfoldable pub readBlock : Edition → List ℕ → Reading
 readBlock e s =
     pick (leb (e .least) (length s) && leb (length s) (e .most))
-    (pick (eqb (rowWidth (rowAt (e .lines) 0 s)) (length s)) (readRow (rowAt (e .lines) 0 s) [] s) (reading.Refused refusal.WrongByte))
+    (pick (eqb (layoutWidth (layoutAt (e .lines) 0 s)) (length s)) (readLayout (layoutAt (e .lines) 0 s) [] s) (reading.Refused refusal.WrongByte))
     (reading.Refused refusal.WrongLength)
 
 -- writing
@@ -113,16 +113,16 @@ choices r =
     ∷ flagChoice (r .utc) ∷ flagChoice (r .summer) ∷ flagChoice (r .change) ∷ flagChoice (r .leap) ∷ offsetChoice (r .offset)
     ∷ positionChoice (r .position) ∷ flagChoice (r .dsp) ∷ flagChoice (r .lsp) ∷ []
 
--- the row of lines so chosen
-unfoldable pub chosenRow : List Line → List ℕ → Row
-chosenRow [] cs = []
-chosenRow (l ∷ ls) [] = []
-chosenRow (l ∷ ls) (c ∷ cs) = getD l c [] ++ chosenRow ls cs
+-- the layout of lines so chosen
+unfoldable pub chosenLayout : List Line → List ℕ → Layout
+chosenLayout [] cs = []
+chosenLayout (l ∷ ls) [] = []
+chosenLayout (l ∷ ls) (c ∷ cs) = getD l c [] ++ chosenLayout ls cs
 
 -- an edition as the writer lays it out for a record
 unfoldable pub blockOf : Edition → Record → Form
 blockOf e r =
-    record { size = rowWidth (chosenRow (e .lines) (e .choices r)); row = chosenRow (e .lines) (e .choices r); checksums = [] }
+    record { size = layoutWidth (chosenLayout (e .lines) (e .choices r)); layout = chosenLayout (e .lines) (e .choices r); checksums = [] }
 
 -- form 9, "118..174" bytes
 abbrev pub firstEdition : Edition

@@ -1,13 +1,13 @@
--- What a form carries beside the time, computed from its row.
+-- What a form carries beside the time, computed from its layout.
 use mathlib.Core.Bool.{Bool}
 use Rattle.forms.specs.Fields.Date.{DateKind, dateKind}
 use Rattle.forms.specs.Fields.Flag.{FlagKind, firstKind, ownKind, secondKind, syncKind}
 use Rattle.forms.specs.Fields.Fraction.{FractionKind, fractionKind}
 use Rattle.forms.specs.Fields.Offset.{OffsetKind, offsetKind}
-use Rattle.forms.specs.Places.{Row, has}
+use Rattle.forms.specs.Places.{Layout, has}
 use Rattle.forms.specs.Slots.{change, channel, daySeconds, dsp, fix, leap, leapSecond, lsp, notice, quality, south, summer, sync, utc, weekday, zone}
 
--- the column "carries beside time", and whether the row tells the weekday, the leap second and the seconds of the day
+-- the column "carries beside time", and whether the layout tells the weekday, the leap second and the seconds of the day
 pub record Carries : Type 0 where
   pub date : DateKind
   pub fraction : FractionKind
@@ -26,8 +26,8 @@ pub record Carries : Type 0 where
   pub leapSecond : Bool
   pub daySeconds : Bool
 
--- a form carries what its row has places for
-unfoldable pub carriesOf : Row → Carries
+-- a form carries what its layout has places for
+unfoldable pub carriesOf : Layout → Carries
 carriesOf ps =
     record {
       date = dateKind ps;

@@ -4,10 +4,10 @@ use mathlib.Core.List.{List, [], _∷_}
 use Prim.Native.Nat.{ℕ, _%_}
 use lib.Dec.{eqb}
 use lib.ListN.{take, drop}
-use Rattle.choice.specs.Pick.{pick}
+use Rattle.cond.specs.Pick.{pick}
 use Rattle.spelling.specs.Bytes.{ones, xorFrom}
 use Rattle.forms.specs.All.{all}
-use Rattle.forms.specs.Slots.{Slot, Values, same, sum}
+use Rattle.forms.specs.Slots.{Slot, Values, same, checksum}
 
 -- the exclusive-or of bytes, or the element that makes the ones among elements, and itself, even in number
 pub data Rule : Type 0 where
@@ -22,8 +22,8 @@ pub record Checksum : Type 0 where
   pub count : ℕ
 
 -- the checksum that the slot `sum` tells
-abbrev pub sumBy : Rule → ℕ → ℕ → Checksum
-sumBy rule from count = record { slot = sum; rule = rule; from = from; count = count }
+abbrev pub checksumBy : Rule → ℕ → ℕ → Checksum
+checksumBy rule from count = record { slot = checksum; rule = rule; from = from; count = count }
 
 abbrev pub totalBy : Rule → List ℕ → ℕ
 totalBy exclusiveOr s = xorFrom 0 s
@@ -43,8 +43,8 @@ unfoldable pub checksumsHold : List Checksum → List ℕ → Values → Bool
 checksumsHold cs s v = all (checksumTests cs s v)
 
 -- the values with this number in the slot `sum`
-abbrev pub withSum : Values → ℕ → Values
-withSum v x f = pick (same f sum) x (v f)
+abbrev pub withChecksum : Values → ℕ → Values
+withChecksum v x f = pick (same f checksum) x (v f)
 
 -- the values with these checksums of a string
 abbrev pub withChecksums : List Checksum → List ℕ → Values → Values

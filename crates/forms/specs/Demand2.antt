@@ -1,48 +1,56 @@
--- Demand 2: "A record written and read back keeps exactly its carried fields ..; an accepted input, written again, is the same
--- bytes. One byte replaced by another in an SPA string is always refused."
+-- Demand 2: "Reading and writing follow the Meinberg manuals ..", in the paper's numbers and values. What each form carries is the table
+-- of `Columns`.
+use mathlib.Core.Bool.{true}
 use mathlib.Core.List.{List, _++_}
 use mathlib.Core.Path.{_≡_}
-use Prim.Native.Nat.{ℕ, _≤_}
-use lib.ListN.{length, take, drop}
+use Prim.Native.Nat.{ℕ, _≤_, _<_}
+use lib.ListN.{drop, getD, length, set, take}
+use Rattle.calendar.specs.Calendar.{dayOfYear}
+use Rattle.record.specs.Answers.{readNumber, readRecord, writeNumber, writtenLength}
+use Rattle.record.specs.declared.Date.the-variants as dateIs
 use Rattle.record.specs.declared.Record.{Record}
-use Rattle.record.specs.declared.answer.Reading.the-variants as reading
-use Rattle.record.specs.declared.answer.Writing.the-variants as writing
-use Rattle.record.specs.declared.refusal.Refusal.{Refusal}
-use Rattle.forms.specs.Form.{Form, bytesBy, carries, readBy, writeBy}
-use Rattle.forms.specs.Forms.{Layout, block, leftAs, readAs, sized, unknown, writeAs}
-use Rattle.forms.specs.Kept.{kept}
-use Rattle.forms.specs.Told.{told}
+use Rattle.record.specs.declared.answer.Reading.{Reading}
+use Rattle.forms.specs.Forms.{carriedForm, hasCarriedForm, leftForm, readForm, writeForm}
 
--- what holds between the reader and the writer of a form
-pub record Trips (d : Form) : Type 0 where
-  -- the writer makes as many bytes as the form has
-  pub sized : (r : Record) (n k : ℕ) → writeBy d r n ≡ writing.Written k → length (bytesBy d (told r)) ≡ d .size
+-- the reader accepts the input, and this is its record
+abbrev pub Accepts : Reading → Record → Type 0
+Accepts a r = (readNumber a ≡ 0) × (readRecord a ≡ r)
+
+-- the number and the length that a writer answers for a buffer
+abbrev pub numberInto : ℕ → Record → List ℕ → ℕ
+numberInto form r out = writeNumber (writeForm form r (length out))
+
+abbrev pub lengthInto : ℕ → Record → List ℕ → ℕ
+lengthInto form r out = writtenLength (writeForm form r (length out))
+
+-- for every form's number
+pub record Demand2 : Type 0 where
+  -- "A read yields the fields which that form carries"
+  pub yields :
+      (form : ℕ) (input : List ℕ) → readNumber (readForm form input) ≡ 0 → hasCarriedForm form (readRecord (readForm form input)) ≡ true
+  -- "and marks every other field absent"
+  pub alone :
+      (form : ℕ) (input : List ℕ) → readNumber (readForm form input) ≡ 0
+      → carriedForm form (readRecord (readForm form input)) ≡ readRecord (readForm form input)
   -- "A record written and read back keeps exactly its carried fields"
-  pub written-read : (r : Record) (n k : ℕ) → writeBy d r n ≡ writing.Written k → readBy d (bytesBy d (told r)) ≡ reading.Read (kept (carries d) r)
-  -- an accepted input gives a record that the writer takes
-  pub taken : (s : List ℕ) (r : Record) (n : ℕ) → d .size ≤ n → readBy d s ≡ reading.Read r → writeBy d r n ≡ writing.Written (d .size)
+  pub written :
+      (form : ℕ) (r : Record) (out : List ℕ) → numberInto form r out ≡ 0
+      → Accepts (readForm form (take (lengthInto form r out) (leftForm form r out))) (carriedForm form r)
+  -- "(of a full date, a SYSPLEX string keeps the day of year)"
+  pub day-of-year :
+      (r : Record) (out : List ℕ) (y m d : ℕ) → r .date ≡ dateIs.Full y m d → numberInto 6 r out ≡ 0
+      → readRecord (readForm 6 (take (lengthInto 6 r out) (leftForm 6 r out))) .date ≡ dateIs.DayOfYear (dayOfYear y m d)
+  -- "A write that succeeds fills the first bytes and returns their number; the bytes behind stay."
+  pub behind :
+      (form : ℕ) (r : Record) (out : List ℕ) → numberInto form r out ≡ 0
+      → drop (lengthInto form r out) (leftForm form r out) ≡ drop (lengthInto form r out) out
   -- "an accepted input, written again, is the same bytes"
-  pub read-written : (s : List ℕ) (r : Record) → readBy d s ≡ reading.Read r → bytesBy d (told r) ≡ s
-  -- "A read yields the fields which that form carries, and marks every other field absent"
-  pub nothing-else : (s : List ℕ) (r : Record) → readBy d s ≡ reading.Read r → kept (carries d) r ≡ r
-
--- what a form keeps of a record; the block keeps every field
-abbrev pub keptAs : Layout → Record → Record
-keptAs (sized d) r = kept (carries d) r
-keptAs (block e) r = r
-keptAs unknown r = r
-
--- the same in terms of answers and buffers, for a form of one length and for the block
-pub record Keeps (l : Layout) : Type 0 where
-  -- "A record written and read back keeps exactly its carried fields"
-  pub written : (r : Record) (out : List ℕ) (k : ℕ) → writeAs l r (length out) ≡ writing.Written k
-      → readAs l (take k (leftAs l r out)) ≡ reading.Read (keptAs l r)
-  -- "the bytes behind stay"
-  pub behind : (r : Record) (out : List ℕ) (k : ℕ) → writeAs l r (length out) ≡ writing.Written k → drop k (leftAs l r out) ≡ drop k out
-  -- "an accepted input, written again, is the same bytes"
-  pub again : (s : List ℕ) (r : Record) (out : List ℕ) → readAs l s ≡ reading.Read r → length s ≤ length out
-      → (writeAs l r (length out) ≡ writing.Written (length s)) × (leftAs l r out ≡ s ++ drop (length s) out)
-  -- "marks every other field absent"
-  pub alone : (s : List ℕ) (r : Record) → readAs l s ≡ reading.Read r → keptAs l r ≡ r
-  -- "a refused write changes no byte of the buffer"
-  pub untouched : (r : Record) (out : List ℕ) (x : Refusal) → writeAs l r (length out) ≡ writing.Refused x → leftAs l r out ≡ out
+  pub again :
+      (form : ℕ) (input : List ℕ) (r : Record) (out : List ℕ) → Accepts (readForm form input) r → length input ≤ length out
+      → (numberInto form r out ≡ 0)
+      × (lengthInto form r out ≡ length input)
+      × (leftForm form r out ≡ input ++ drop (length input) out)
+  -- "One byte replaced by another in an SPA string is always refused."
+  pub replaced :
+      (input : List ℕ) (place byte : ℕ) → readNumber (readForm 4 input) ≡ 0 → place < length input → (byte ≡ getD input place 0 → ⊥)
+      → readNumber (readForm 4 (set input place byte)) ≡ 0 → ⊥

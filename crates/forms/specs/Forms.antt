@@ -5,7 +5,7 @@ use mathlib.Core.Path.{_≡_}
 use Prim.Native.Nat.{ℕ}
 use lib.Dec.{eqb}
 use lib.ListN.{length}
-use Rattle.choice.specs.Pick.{pick}
+use Rattle.cond.specs.Pick.{pick}
 use Rattle.record.specs.declared.Record.{Record}
 use Rattle.record.specs.declared.answer.Reading.{Reading}
 use Rattle.record.specs.declared.answer.Reading.the-variants as reading
@@ -13,25 +13,27 @@ use Rattle.record.specs.declared.answer.Writing.{Writing}
 use Rattle.record.specs.declared.answer.Writing.the-variants as writing
 use Rattle.record.specs.declared.refusal.Refusal.the-variants as refusal
 use Rattle.forms.specs.Block.{Edition, blockOf, firstEdition, readBlock}
-use Rattle.forms.specs.Form.{Form, leftBy, readBy, writeBy}
+use Rattle.forms.specs.CarriedPart.{carriedPart}
+use Rattle.forms.specs.Form.{Form, carries, leftBy, readBy, writeBy}
 use Rattle.forms.specs.Frame.{frame}
+use Rattle.forms.specs.Required.{hasCarried}
 use Rattle.forms.specs.Serial.{capture, computime, erlangen, racal, spa, standard, sysplex}
 
 -- a form of one length, an edition of the block, or no form at all
-pub data Layout : Type 0 where
-  sized : Form → Layout
-  block : Edition → Layout
-  unknown : Layout
+pub data FormKind : Type 0 where
+  sized : Form → FormKind
+  block : Edition → FormKind
+  unknown : FormKind
 
 -- a form and its number
 pub record Numbered : Type 0 where
   pub number : ℕ
-  pub layout : Layout
+  pub kind : FormKind
 
-abbrev pub numbered : ℕ → Layout → Numbered
-numbered n l = record { number = n; layout = l }
+abbrev pub numbered : ℕ → FormKind → Numbered
+numbered n l = record { number = n; kind = l }
 
--- the serial forms, 1 to 7, which search and listener take: all that speaks of them goes by this list
+-- the serial forms, 1 to 7, which search and listener take: all that alwaysHasWord of them goes by this list
 abbrev pub serialForms : List Numbered
 serialForms =
     numbered 1 (sized standard) ∷ numbered 2 (sized capture) ∷ numbered 3 (sized erlangen) ∷ numbered 4 (sized spa) ∷ numbered 5 (sized racal)
@@ -42,48 +44,66 @@ abbrev pub allForms : List Numbered
 allForms = serialForms ++ (numbered 8 (sized frame) ∷ numbered 9 (block firstEdition) ∷ [])
 
 -- the form of a number
-unfoldable pub layoutOf : List Numbered → ℕ → Layout
-layoutOf [] n = unknown
-layoutOf (e ∷ es) n = pick (eqb n (e .number)) (e .layout) (layoutOf es n)
+unfoldable pub formKindOf : List Numbered → ℕ → FormKind
+formKindOf [] n = unknown
+formKindOf (e ∷ es) n = pick (eqb n (e .number)) (e .kind) (formKindOf es n)
 
 -- there is a form
-abbrev pub isKnown : Layout → Bool
+abbrev pub isKnown : FormKind → Bool
 isKnown (sized d) = true
 isKnown (block e) = true
 isKnown unknown = false
 
 -- refusals 1 and 11: "search, new listener: not 1..7", "listener state: form not 1..7" where this is false
 unfoldable pub isSerial : ℕ → Bool
-isSerial n = isKnown (layoutOf serialForms n)
+isSerial n = isKnown (formKindOf serialForms n)
 
 -- the reader's answer
-unfoldable pub readAs : Layout → List ℕ → Reading
+unfoldable pub readAs : FormKind → List ℕ → Reading
 readAs (sized d) s = readBy d s
 readAs (block e) s = readBlock e s
 readAs unknown s = reading.Refused refusal.UnknownForm
 
 unfoldable pub readForm : ℕ → List ℕ → Reading
-readForm n s = readAs (layoutOf allForms n) s
+readForm n s = readAs (formKindOf allForms n) s
 
 -- the writer's answer into a buffer of so many bytes
-unfoldable pub writeAs : Layout → Record → ℕ → Writing
+unfoldable pub writeAs : FormKind → Record → ℕ → Writing
 writeAs (sized d) r room = writeBy d r room
 writeAs (block e) r room = writeBy (blockOf e r) r room
 writeAs unknown r room = writing.Refused refusal.UnknownForm
 
 unfoldable pub writeForm : ℕ → Record → ℕ → Writing
-writeForm n r room = writeAs (layoutOf allForms n) r room
+writeForm n r room = writeAs (formKindOf allForms n) r room
 
 -- what the writer leaves in the buffer
-unfoldable pub leftAs : Layout → Record → List ℕ → List ℕ
+unfoldable pub leftAs : FormKind → Record → List ℕ → List ℕ
 leftAs (sized d) r out = leftBy d r out
 leftAs (block e) r out = leftBy (blockOf e r) r out
 leftAs unknown r out = out
 
 unfoldable pub leftForm : ℕ → Record → List ℕ → List ℕ
-leftForm n r out = leftAs (layoutOf allForms n) r out
+leftForm n r out = leftAs (formKindOf allForms n) r out
+
+-- "a carried field is absent or of the other kind (form 9 never ..)" where this is false
+abbrev pub hasCarriedAs : FormKind → Record → Bool
+hasCarriedAs (sized d) r = hasCarried (carries d) r
+hasCarriedAs (block e) r = true
+hasCarriedAs unknown r = true
+
+unfoldable pub hasCarriedForm : ℕ → Record → Bool
+hasCarriedForm n r = hasCarriedAs (formKindOf allForms n) r
+
+-- what a form carries of a record, all else absent; the block carries "every field"
+abbrev pub carriedAs : FormKind → Record → Record
+carriedAs (sized d) r = carriedPart (carries d) r
+carriedAs (block e) r = r
+carriedAs unknown r = r
+
+unfoldable pub carriedForm : ℕ → Record → Record
+carriedForm n r = carriedAs (formKindOf allForms n) r
 
 -- what the contract of a writer of several forms says: its answer, and every byte of the buffer afterwards
-pub record WroteAs (l : Layout) (r : Record) (w : Writing) (before after : List ℕ) : Type 0 where
+pub record WroteAs (l : FormKind) (r : Record) (w : Writing) (before after : List ℕ) : Type 0 where
   pub answer : w ≡ writeAs l r (length before)
   pub left : after ≡ leftAs l r before

@@ -5,7 +5,7 @@ use Prim.Native.Nat.{ℕ, _+_}
 use Prim.Native.String.{String}
 use lib.Dec.{eqb, ltb}
 use lib.ListN.{length, take, drop}
-use Rattle.choice.specs.Pick.{pick}
+use Rattle.cond.specs.Pick.{pick}
 use Rattle.spelling.specs.Bytes.{letters, sameBytes, text}
 use Rattle.spelling.specs.Spelling.{Spelling, bits, digits, grouped, hex, isSpelled, padded, spell, spelledWidth, valueOf, word, words}
 use Rattle.forms.specs.Slots.{Slot, Values, same}
@@ -16,18 +16,18 @@ pub data Place : Type 0 where
   part : Spelling → Slot → Place
 
 -- a layout is a row of places
-abbrev pub Row : Type 0
-Row = List Place
+abbrev pub Layout : Type 0
+Layout = List Place
 
 -- the bytes of a place
 abbrev pub width : Place → ℕ
 width (fixed bs) = length bs
 width (part c f) = spelledWidth c
 
--- the bytes of a row
-unfoldable pub rowWidth : Row → ℕ
-rowWidth [] = 0
-rowWidth (p ∷ ps) = width p + rowWidth ps
+-- the bytes of a layout
+unfoldable pub layoutWidth : Layout → ℕ
+layoutWidth [] = 0
+layoutWidth (p ∷ ps) = width p + layoutWidth ps
 
 -- these bytes may stand at the place
 abbrev pub fits : Place → List ℕ → Bool
@@ -35,8 +35,8 @@ fits (fixed bs) x = sameBytes x bs
 fits (part c f) x = isSpelled c x
 
 -- "a fixed byte, digit, letter, padding, mark, always-zero element, key or spelling is wrong" where this is false; the
--- row's first byte is byte k
-unfoldable pub shape : Row → ℕ → List ℕ → Bool
+-- layout's first byte is byte k
+unfoldable pub shape : Layout → ℕ → List ℕ → Bool
 shape [] k s = true
 shape (p ∷ ps) k s = fits p (take (width p) (drop k s)) && shape ps (width p + k) s
 
@@ -45,8 +45,8 @@ abbrev pub isOf : Slot → Place → Bool
 isOf f (fixed bs) = false
 isOf f (part c g) = same f g
 
--- the row has a place for the slot
-unfoldable pub has : Row → Slot → Bool
+-- the layout has a place for the slot
+unfoldable pub has : Layout → Slot → Bool
 has [] f = false
 has (p ∷ ps) f = isOf f p || has ps f
 
@@ -55,8 +55,8 @@ abbrev pub valueAt : Place → List ℕ → ℕ
 valueAt (fixed bs) x = 0
 valueAt (part c g) x = valueOf c x
 
--- what the bytes from k on tell for a slot, 0 where the row has no place for it
-unfoldable pub values : Row → ℕ → List ℕ → Values
+-- what the bytes from k on tell for a slot, 0 where the layout has no place for it
+unfoldable pub values : Layout → ℕ → List ℕ → Values
 values [] k s f = 0
 values (p ∷ ps) k s f = pick (isOf f p) (valueAt p (take (width p) (drop k s))) (values ps (width p + k) s f)
 
@@ -65,26 +65,26 @@ abbrev pub placed : Place → Values → List ℕ
 placed (fixed bs) v = bs
 placed (part c f) v = spell c (v f)
 
--- the bytes of a row that tells v
-unfoldable pub bytesOf : Row → Values → List ℕ
+-- the bytes of a layout that tells v
+unfoldable pub bytesOf : Layout → Values → List ℕ
 bytesOf [] v = []
 bytesOf (p ∷ ps) v = placed p v ++ bytesOf ps v
 
 -- a word of the list is there for what v tells
-abbrev pub worded : Place → Values → Bool
-worded (fixed bs) v = true
-worded (part (digits w) f) v = true
-worded (part (hex w) f) v = true
-worded (part (padded w) f) v = true
-worded (part (bits w) f) v = true
-worded (part (grouped b gs) f) v = true
-worded (part (words w ws) f) v = ltb (v f) (length ws)
-worded (part (word m bs) f) v = eqb (v f) m
+abbrev pub hasWord : Place → Values → Bool
+hasWord (fixed bs) v = true
+hasWord (part (digits w) f) v = true
+hasWord (part (hex w) f) v = true
+hasWord (part (padded w) f) v = true
+hasWord (part (bits w) f) v = true
+hasWord (part (grouped b gs) f) v = true
+hasWord (part (words w ws) f) v = ltb (v f) (length ws)
+hasWord (part (word m bs) f) v = eqb (v f) m
 
--- each word list of the row has a word for what v tells
-unfoldable pub allWorded : Row → Values → Bool
-allWorded [] v = true
-allWorded (p ∷ ps) v = worded p v && allWorded ps v
+-- each word list of the layout has a word for what v tells
+unfoldable pub hasWords : Layout → Values → Bool
+hasWords [] v = true
+hasWords (p ∷ ps) v = hasWord p v && hasWords ps v
 
 -- the places as the layouts write them
 

@@ -1,37 +1,37 @@
 -- The seven serial forms: their layouts, as document 01 writes them.
 use mathlib.Core.List.{[], _∷_}
 use Rattle.spelling.specs.Spelling.{digits, hex, padded}
-use Rattle.forms.specs.Checksum.{Checksum, exclusiveOr, sumBy}
+use Rattle.forms.specs.Checksum.{Checksum, exclusiveOr, checksumBy}
 use Rattle.forms.specs.Form.{Form}
-use Rattle.forms.specs.Places.{Row, letter, lit, one, part, two}
+use Rattle.forms.specs.Places.{Layout, letter, lit, one, part, two}
 use Rattle.forms.specs.Slots.{altitude, change, channel, day, fix, hour, latitudeDegrees, latitudePart, leap, leapSecond, longitudeDegrees}
-use Rattle.forms.specs.Slots.{longitudePart, minus, minute, month, notice, offsetHours, offsetMinutes, ordinal, second, south, sum, summer, sync}
+use Rattle.forms.specs.Slots.{longitudePart, minus, minute, month, notice, offsetHours, offsetMinutes, ordinal, second, south, checksum, summer, sync}
 use Rattle.forms.specs.Slots.{tenMillionth, thousandth, weekday, west, year, zone}
 
 -- 1. `<STX>D:dd.mm.yy;T:w;U:hh.mm.ss;uvxy<ETX>`
-abbrev pub standardRow : Row
-standardRow =
+abbrev pub standardLayout : Layout
+standardLayout =
     lit "\u{2}D:" ∷ two day ∷ lit "." ∷ two month ∷ lit "." ∷ two year ∷ lit ";T:" ∷ one weekday ∷ lit ";U:"
     ∷ two hour ∷ lit "." ∷ two minute ∷ lit "." ∷ two second ∷ lit ";"
     ∷ letter sync "# " ∷ letter fix "* " ∷ letter zone " SU" ∷ letter notice " A!" ∷ lit "\u{3}" ∷ []
 
 -- full date, sync, fix, utc, summer, change, leap
 abbrev pub standard : Form
-standard = record { size = 32; row = standardRow; checksums = [] }
+standard = record { size = 32; layout = standardLayout; checksums = [] }
 
 -- 2. `CHx dd.mm.yy hh:mm:ss.fffffff<CR><LF>`
-abbrev pub captureRow : Row
-captureRow =
+abbrev pub captureLayout : Layout
+captureLayout =
     lit "CH" ∷ one channel ∷ lit " " ∷ two day ∷ lit "." ∷ two month ∷ lit "." ∷ two year ∷ lit " "
     ∷ two hour ∷ lit ":" ∷ two minute ∷ lit ":" ∷ two second ∷ lit "." ∷ part (digits 7) tenMillionth ∷ lit "\r\n" ∷ []
 
 -- full date, ten-millionths, channel
 abbrev pub capture : Form
-capture = record { size = 31; row = captureRow; checksums = [] }
+capture = record { size = 31; layout = captureLayout; checksums = [] }
 
 -- 3. `<STX>dd.mm.yy; w; hh:mm:ss; voo:oo; acdfg i;bbb.bbbbn lll.lllle hhhhm<ETX>`
-abbrev pub erlangenRow : Row
-erlangenRow =
+abbrev pub erlangenLayout : Layout
+erlangenLayout =
     lit "\u{2}" ∷ two day ∷ lit "." ∷ two month ∷ lit "." ∷ two year ∷ lit "; " ∷ one weekday ∷ lit "; "
     ∷ two hour ∷ lit ":" ∷ two minute ∷ lit ":" ∷ two second ∷ lit "; "
     ∷ letter minus "+-" ∷ two offsetHours ∷ lit ":" ∷ two offsetMinutes ∷ lit "; "
@@ -43,46 +43,46 @@ erlangenRow =
 
 -- full date, offset, sync, fix, summer, change, leap, position
 abbrev pub erlangen : Form
-erlangen = record { size = 66; row = erlangenRow; checksums = [] }
+erlangen = record { size = 66; layout = erlangenLayout; checksums = [] }
 
 -- 4. `>900WD:yy-mm-dd hh.mm;ss.fff:cc<CR>`, "cc is the exclusive-or of all 29 bytes before it"
-abbrev pub spaRow : Row
-spaRow =
+abbrev pub spaLayout : Layout
+spaLayout =
     lit ">900WD:" ∷ two year ∷ lit "-" ∷ two month ∷ lit "-" ∷ two day ∷ lit " "
     ∷ two hour ∷ lit "." ∷ two minute ∷ lit ";" ∷ two second ∷ lit "." ∷ part (digits 3) thousandth ∷ lit ":"
-    ∷ part (hex 2) sum ∷ lit "\r" ∷ []
+    ∷ part (hex 2) checksum ∷ lit "\r" ∷ []
 
-abbrev pub spaSum : Checksum
-spaSum = sumBy exclusiveOr 0 29
+abbrev pub spaChecksum : Checksum
+spaChecksum = checksumBy exclusiveOr 0 29
 
 -- full date, thousandths
 abbrev pub spa : Form
-spa = record { size = 32; row = spaRow; checksums = spaSum ∷ [] }
+spa = record { size = 32; layout = spaLayout; checksums = spaChecksum ∷ [] }
 
 -- 5. `XGUyymmddhhmmss<CR>`
-abbrev pub racalRow : Row
-racalRow = lit "XGU" ∷ two year ∷ two month ∷ two day ∷ two hour ∷ two minute ∷ two second ∷ lit "\r" ∷ []
+abbrev pub racalLayout : Layout
+racalLayout = lit "XGU" ∷ two year ∷ two month ∷ two day ∷ two hour ∷ two minute ∷ two second ∷ lit "\r" ∷ []
 
 -- full date
 abbrev pub racal : Form
-racal = record { size = 16; row = racalRow; checksums = [] }
+racal = record { size = 16; layout = racalLayout; checksums = [] }
 
 -- 6. `<SOH>ddd:hh:mm:ssq<CR><LF>`
-abbrev pub sysplexRow : Row
-sysplexRow =
+abbrev pub sysplexLayout : Layout
+sysplexLayout =
     lit "\u{1}" ∷ part (digits 3) ordinal ∷ lit ":" ∷ two hour ∷ lit ":" ∷ two minute ∷ lit ":" ∷ two second
     ∷ letter sync "? " ∷ lit "\r\n" ∷ []
 
 -- day of year, sync
 abbrev pub sysplex : Form
-sysplex = record { size = 16; row = sysplexRow; checksums = [] }
+sysplex = record { size = 16; layout = sysplexLayout; checksums = [] }
 
 -- 7. `T:yy:mm:dd:ww:hh:mm:ss<CR><LF>`
-abbrev pub computimeRow : Row
-computimeRow =
+abbrev pub computimeLayout : Layout
+computimeLayout =
     lit "T:" ∷ two year ∷ lit ":" ∷ two month ∷ lit ":" ∷ two day ∷ lit ":" ∷ two weekday ∷ lit ":"
     ∷ two hour ∷ lit ":" ∷ two minute ∷ lit ":" ∷ two second ∷ lit "\r\n" ∷ []
 
 -- full date
 abbrev pub computime : Form
-computime = record { size = 24; row = computimeRow; checksums = [] }
+computime = record { size = 24; layout = computimeLayout; checksums = [] }

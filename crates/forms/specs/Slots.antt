@@ -14,7 +14,7 @@ pub data Slot : Type 0 where
   sync quality fix zone utc summer notice change leap dsp lsp : Slot
   minus offsetHours offsetMinutes halfHour : Slot
   south latitudeDegrees latitudePart west longitudeDegrees longitudePart altitude : Slot
-  sum : Slot
+  checksum : Slot
 
 -- the number of a slot, to tell slots apart
 abbrev pub slotNumber : Slot → ℕ
@@ -54,7 +54,7 @@ slotNumber west = 32
 slotNumber longitudeDegrees = 33
 slotNumber longitudePart = 34
 slotNumber altitude = 35
-slotNumber sum = 36
+slotNumber checksum = 36
 
 -- two slots are the same
 abbrev pub same : Slot → Slot → Bool
@@ -67,7 +67,7 @@ among f (g ∷ gs) = same f g || among f gs
 
 -- the slots that tell a checksum, and so nothing of the record
 abbrev pub ofChecksum : List Slot
-ofChecksum = sum ∷ []
+ofChecksum = checksum ∷ []
 
 abbrev pub isChecksum : Slot → Bool
 isChecksum f = among f ofChecksum

@@ -3,10 +3,10 @@ use mathlib.Core.List.{List, [], _∷_}
 use mathlib.Core.Path.{_≡_}
 use Prim.Native.Nat.{ℕ, _<_}
 use lib.ListN.{length, getD}
-use Rattle.forms.specs.Places.{Row, fixed, part}
+use Rattle.forms.specs.Places.{Layout, fixed, part}
 
--- the first byte of a row, 0 where that is no fixed byte
-abbrev pub startByte : Row → ℕ
+-- the first byte of a layout, 0 where that is no fixed byte
+abbrev pub startByte : Layout → ℕ
 startByte [] = 0
 startByte (part c f ∷ ps) = 0
 startByte (fixed [] ∷ ps) = 0

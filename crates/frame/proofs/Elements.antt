@@ -1,80 +1,35 @@
--- The ten rows are the frame's bytes; they are stored one behind the other, and their ones are those at 1 to 74.
-use mathlib.Core.Path.{_≡_, refl, sym, _∙_, ap}
-use mathlib.Core.Bool.{Bool, true, false}
-use mathlib.Core.List.{List, [], _∷_, _++_, append-assoc, append-nil}
-use Prim.Native.Nat.{ℕ, zero, suc, _+_, _*_, _%_, _≤_, _<_}
-use native.Mathlib.Nat.{add-zero, zero-add}
-use native.Mathlib.Omega.{arith}
-use lib.Dec.{eqb}
-use lib.ListN.{length, getD, set, take, drop, length-append}
-use lib.Seq.{sets, take-length}
-use Rattle.choice.specs.Pick.{oneIf}
+-- The ten rows are the frame's bytes, element by element, and each is stored behind those before it.
+use Rattle.spelling.specs.Stored.{stored}
+use Rattle.cond.proofs.Kit.{[], _%_, _*_, _++_, _+_, _<_, _∙_, _∷_, _≡_, and-true, ap, append-assoc, append-nil, arith, drop, getD, length}
+use Rattle.cond.proofs.Kit.{length-append, List, ltb, ltb-true, refl, sets, suc, suc-add, sym, take, true, zero, ℕ}
 use Rattle.spelling.specs.Bytes.{bitsOf, groupsOf, ones}
-use Rattle.forms.specs.Checksum.{withSum}
-use Rattle.forms.specs.Form.{bytesBy}
-use Rattle.forms.specs.Frame.{frame, frameRow}
-use Rattle.forms.specs.Places.{bytesOf}
+use Rattle.spelling.proofs.Stores
+use Rattle.forms.specs.Checksum.{withChecksum}
+use Rattle.forms.specs.Form.{bytesBy, isExpressible}
+use Rattle.forms.specs.Frame.{frame, frameLayout}
+use Rattle.forms.specs.Places.{bytesOf, has, hasWords}
 use Rattle.forms.specs.Slots.{Values, deletion, halfHour, minus}
-use Rattle.forms.specs.Told.{told}
+use Rattle.forms.specs.Encode.{encode}
 use Rattle.record.specs.declared.Record.{Record}
-use Rattle.frame.specs.Rows.{withMinus}
+use Rattle.frame.specs.Layouts.{withMinus}
 use Rattle.frame.specs.Tens.{joined, tenRows}
 
 -- rows one behind the other
 
-pub joined-next : (f : List (List ℕ)) (i : ℕ) → i < length f → joined (take (i + 1) f) ≡ joined (take i f) ++ getD f i []
+joined-next : (f : List (List ℕ)) (i : ℕ) → i < length f → joined (take (i + 1) f) ≡ joined (take i f) ++ getD f i []
 unfolding joined
 joined-next [] i h = absurd (omega arith)
 joined-next (x ∷ f) zero h = append-nil x
-joined-next (x ∷ f) (suc i) h =
-    let e : suc i + 1 ≡ suc (i + 1) = omega arith in
-    simp (e, append-assoc) (ap (λ (l : List ℕ). x ++ l) (joined-next f i (omega arith)))
-
-pub joined-all : (f : List (List ℕ)) (i : ℕ) → i ≡ length f → joined (take i f) ≡ joined f
-joined-all f i e = ap (λ (n : ℕ). joined (take n f)) e ∙ ap joined (take-length f)
-
--- stores
-
-pub sets-append : (o : List ℕ) (i : ℕ) (a b : List ℕ) → sets (sets o i a) (i + length a) b ≡ sets o i (a ++ b)
-sets-append o i [] b = ap (λ (n : ℕ). sets o n b) (add-zero i)
-sets-append o i (x ∷ a) b =
-    let e : i + suc (length a) ≡ suc i + length a = omega arith in
-    ap (λ (n : ℕ). sets (sets (set o i x) (suc i) a) n b) e ∙ sets-append (set o i x) (suc i) a b
+joined-next (x ∷ f) (suc i) h = rw (suc-add, append-assoc) (ap (λ (l : List ℕ). x ++ l) (joined-next f i (omega arith)))
 
 module _ (f : List (List ℕ)) (i : ℕ) (inside : i < length f) (long : length (joined (take i f)) ≡ i * 10) where
   pub next-length : length (getD f i []) ≡ 10 → length (joined (take (i + 1) f)) ≡ (i + 1) * 10
-  next-length h = ap length (joined-next f i inside) ∙ length-append (joined (take i f)) (getD f i []) ∙ omega arith
+  next-length h = rw (joined-next f i inside, length-append) (omega arith)
 
-  pub next-stored : (o x y : List ℕ) → x ≡ sets o 0 (joined (take i f)) → y ≡ sets x (i * 10) (getD f i [])
-      → y ≡ sets o 0 (joined (take (i + 1) f))
-  next-stored o x y p q =
+  pub next-stored : (o : List ℕ) → sets (sets o 0 (joined (take i f))) (i * 10) (getD f i []) ≡ sets o 0 (joined (take (i + 1) f))
+  next-stored o =
       let e : i * 10 ≡ 0 + length (joined (take i f)) = omega arith in
-      q ∙ ap (λ (l : List ℕ). sets l (i * 10) (getD f i [])) p ∙ ap (λ (n : ℕ). sets (sets o 0 (joined (take i f))) n (getD f i [])) e
-      ∙ sets-append o 0 (joined (take i f)) (getD f i [])
-      ∙ ap (sets o 0) (sym (joined-next f i inside))
-
--- ones
-
-ones-append : (a b : List ℕ) → ones (a ++ b) ≡ ones a + ones b
-unfolding ones
-ones-append [] b = sym (zero-add (ones b))
-ones-append (x ∷ a) b = omega (arith, ones-append a b)
-
-one-le : (x : ℕ) → oneIf (eqb x 1) ≤ 1
-one-le x = go (eqb x 1)
-  where
-    go : (t : Bool) → oneIf t ≤ 1
-    go true = omega arith
-    go false = omega arith
-
-pub ones-le : (a : List ℕ) → ones a ≤ length a
-unfolding ones
-ones-le [] = omega arith
-ones-le (x ∷ a) = omega (arith, ones-le a, one-le x)
-
-pub ones-next : (f : List (List ℕ)) (n i : ℕ) → i < length f → n ≡ ones (joined (take i f)) → n + ones (getD f i []) ≡ ones (joined (take (i + 1) f))
-ones-next f n i h e =
-    ap (λ (m : ℕ). m + ones (getD f i [])) e ∙ sym (ap ones (joined-next f i h) ∙ ones-append (joined (take i f)) (getD f i []))
+      rw (e, joined-next f i inside) (sym (Stores.sets-append (joined (take i f)) (getD f i []) o 0))
 
 -- the rows of the frame
 
@@ -84,30 +39,32 @@ half-word zero h = refl
 half-word (suc zero) h = refl
 half-word (suc (suc n)) h = absurd (omega arith)
 
-rows-bytes : (v : Values) → v halfHour < 2 → v deletion ≡ 0 → joined (tenRows v) ≡ bytesOf (frameRow minus) v
-unfolding joined tenRows bytesOf groupsOf bitsOf
+rows-bytes : (v : Values) → v halfHour < 2 → v deletion ≡ 0 → joined (tenRows v) ≡ bytesOf (frameLayout minus) v
+unfolding joined tenRows stored bytesOf groupsOf bitsOf
 rows-bytes v h d = simp (half-word (v halfHour) h, d)
 
--- the ones of the first eight rows, without a parity
-rows-ones : (v : Values) → ones (joined (take 8 (tenRows (withSum v 0)))) ≡ ones (take 74 (drop 1 (joined (tenRows (withSum v 0)))))
-unfolding joined tenRows groupsOf bitsOf ones
-rows-ones v = zero-add _
+-- the parity stands behind the elements that it is taken over
+rows-front : (v : Values) (o : List ℕ) → take 74 (drop 1 (joined (tenRows v) ++ o)) ≡ take 74 (drop 1 (joined (tenRows v)))
+unfolding joined tenRows stored bitsOf
+rows-front v o = refl
 
-no-parity : (r : Record) (n : ℕ) → bytesOf (frameRow minus) (withSum (withMinus (told r) n) 0) ≡ bytesOf (frameRow minus) (withMinus (told r) n)
-unfolding bytesOf
-no-parity r n = refl
+-- the half hour alone is a word
+pub has-words-of : (r : Record) → isExpressible (frame .layout) (encode r) ≡ ltb (encode r halfHour) 2
+unfolding hasWords has isExpressible
+has-words-of r = and-true (ltb (encode r halfHour) 2)
 
-module _ (r : Record) (n p : ℕ) (h : told r halfHour < 2) where
-  pub rows-frame : p ≡ ones (joined (take 8 (tenRows (withSum (withMinus (told r) n) 0)))) % 2
-      → joined (tenRows (withSum (withMinus (told r) n) p)) ≡ bytesBy frame (withMinus (told r) n)
-  unfolding bytesBy
-  rows-frame e =
-      let v : Values = withMinus (told r) n in
-      let m : ones (joined (take 8 (tenRows (withSum v 0)))) ≡ ones (take 74 (drop 1 (bytesOf (frameRow minus) v))) =
-      rows-ones v ∙ ap (λ (l : List ℕ). ones (take 74 (drop 1 l))) (rows-bytes (withSum v 0) h refl ∙ no-parity r n) in
-      rows-bytes (withSum v p) h refl ∙ ap (λ (x : ℕ). bytesOf (frameRow minus) (withSum v x)) (e ∙ ap (λ (x : ℕ). x % 2) m)
+-- the rows with the parity of the rows without one
+pub rows-frame : (r : Record) (n p : ℕ) (o : List ℕ) → isExpressible (frame .layout) (encode r) ≡ true
+    → p ≡ ones (take 74 (drop 1 (joined (tenRows (withChecksum (withMinus (encode r) n) 0)) ++ o))) % 2
+    → joined (tenRows (withChecksum (withMinus (encode r) n) p)) ≡ bytesBy frame (withMinus (encode r) n)
+unfolding bytesBy bytesOf
+rows-frame r n p o x e =
+    let v : Values = withMinus (encode r) n in
+    let h = ltb-true (encode r halfHour) 2 (sym (has-words-of r) ∙ x) in
+    let m = ap ones (rows-front (withChecksum v 0) o ∙ ap (λ (l : List ℕ). take 74 (drop 1 l)) (rows-bytes (withChecksum v 0) h refl)) in
+    rows-bytes (withChecksum v p) h refl ∙ ap (λ (y : ℕ). bytesOf (frameLayout minus) (withChecksum v y)) (e ∙ ap (λ (y : ℕ). y % 2) m)
 
 -- with its own sign
-pub bytes-own : (r : Record) → bytesBy frame (withMinus (told r) (told r minus)) ≡ bytesBy frame (told r)
+pub bytes-own : (r : Record) (n : ℕ) → n ≡ encode r minus → bytesBy frame (withMinus (encode r) n) ≡ bytesBy frame (encode r)
 unfolding bytesBy bytesOf
-bytes-own r = refl
+bytes-own r n e = rw e

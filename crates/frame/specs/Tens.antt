@@ -1,53 +1,46 @@
--- The frame as ten rows of ten elements.
+-- Inner: the frame as "ten groups of ten elements": its rows.
 use mathlib.Core.List.{List, [], _∷_, _++_}
-use Prim.Native.Nat.{ℕ, _/_, _%_}
-use Rattle.spelling.specs.Bytes.{bitsOf, groupsOf}
-use Rattle.forms.specs.Slots.{Values, daySeconds, dsp, halfHour, hour, lsp, minus, minute, offsetHours, ordinal, quality, second, sum, summer, year}
-use Rattle.frame.specs.Rows.{pair}
+use Prim.Native.Nat.{ℕ, _+_, _/_, _%_}
+use lib.ListN.{set}
+use Rattle.spelling.specs.Stored.{stored}
+use Rattle.spelling.specs.Bytes.{bitsOf}
+use Rattle.forms.specs.Slots.{Values, checksum, daySeconds, dsp, halfHour, hour, lsp, minus, minute, offsetHours, ordinal, quality, second, summer, year}
 
--- 0 to 9
-abbrev pub secondsRow : ℕ → List ℕ
-secondsRow n = 2 ∷ groupsOf 10 (pair 4 0 3) n ++ (2 ∷ [])
+-- a row that tells nothing: "Marks stand at .. 9, 19, .. 99", "the rest is 0"
+abbrev pub blank : List ℕ
+blank = 0 ∷ 0 ∷ 0 ∷ 0 ∷ 0 ∷ 0 ∷ 0 ∷ 0 ∷ 0 ∷ 2 ∷ []
 
--- 10 to 19
-abbrev pub minutesRow : ℕ → List ℕ
-minutesRow n = groupsOf 10 (pair 4 0 3) n ++ (0 ∷ 2 ∷ [])
+-- the row with a number in so many elements from k on, "low bit first"
+abbrev pub withBits : List ℕ → ℕ → ℕ → ℕ → List ℕ
+withBits row k w n = stored row k (bitsOf w n)
 
--- 20 to 29
-abbrev pub hoursRow : ℕ → List ℕ
-hoursRow n = groupsOf 10 (pair 4 0 2) n ++ (0 ∷ 0 ∷ 2 ∷ [])
+-- "BCD, low bit first": the row with two decimal digits, the low one in four elements from k on, the high one in so many behind the next
+abbrev pub withPair : List ℕ → ℕ → ℕ → ℕ → List ℕ
+withPair row k high n = withBits (withBits row k 4 (n % 10)) (k + 5) high (n / 10 % 10)
 
--- two digits and the mark: the lower ones of the day of year, 30 to 39, and the year, 50 to 59
-abbrev pub digitsRow : ℕ → List ℕ
-digitsRow n = groupsOf 10 (pair 4 0 4) n ++ (2 ∷ [])
+-- "60 lsp; 61 leap deletion; 62 dsp; 63 summer; 64 offset sign; 65-68 whole hours of offset"; no second is deleted
+abbrev pub zoneRow : Values → List ℕ
+zoneRow v =
+    withBits (withBits (withBits (withBits (withBits blank 0 1 (v lsp)) 2 1 (v dsp)) 3 1 (v summer)) 4 1 (v minus)) 5 4 (v offsetHours)
 
--- the hundreds of the day of year, 40 to 49
-abbrev pub hundredsRow : ℕ → List ℕ
-hundredsRow n = bitsOf 2 (n / 10 / 10 % 10) ++ (0 ∷ 0 ∷ 0 ∷ 0 ∷ 0 ∷ 0 ∷ 0 ∷ 2 ∷ [])
+-- "70 its half hour; 71-74 TFOM; 75 parity"
+abbrev pub qualityRow : Values → List ℕ
+qualityRow v = withBits (withBits (withBits blank 0 1 (v halfHour)) 1 4 (v quality)) 5 1 (v checksum)
 
--- 60 to 69; no second is deleted
-abbrev pub flagsRow : ℕ → ℕ → ℕ → ℕ → ℕ → List ℕ
-flagsRow pending change summerTime sign hours =
-    bitsOf 1 pending ++ (0 ∷ bitsOf 1 change ++ (bitsOf 1 summerTime ++ (bitsOf 1 sign ++ (bitsOf 4 hours ++ (2 ∷ [])))))
-
--- 70 to 79
-abbrev pub qualityRow : ℕ → ℕ → ℕ → List ℕ
-qualityRow half tfom parity = bitsOf 1 half ++ (bitsOf 4 tfom ++ (bitsOf 1 parity ++ (0 ∷ 0 ∷ 0 ∷ 2 ∷ [])))
-
--- 80 to 89
-abbrev pub lowRow : ℕ → List ℕ
-lowRow n = bitsOf 9 (n % 512) ++ (2 ∷ [])
-
--- 90 to 99
-abbrev pub highRow : ℕ → List ℕ
-highRow n = bitsOf 8 (n / 512 % 512) ++ (0 ∷ 2 ∷ [])
-
--- the rows of a frame that tells v
+-- the ten rows of a frame that tells v: "Marks stand at 0", too; the day of the year goes on from 38 to 40, the seconds of the day from 88 to 90
 unfoldable pub tenRows : Values → List (List ℕ)
 tenRows v =
-    secondsRow (v second) ∷ minutesRow (v minute) ∷ hoursRow (v hour) ∷ digitsRow (v ordinal) ∷ hundredsRow (v ordinal) ∷ digitsRow (v year)
-    ∷ flagsRow (v lsp) (v dsp) (v summer) (v minus) (v offsetHours) ∷ qualityRow (v halfHour) (v quality) (v sum)
-    ∷ lowRow (v daySeconds) ∷ highRow (v daySeconds) ∷ []
+    withPair (set blank 0 2) 1 3 (v second)
+    ∷ withPair blank 0 3 (v minute)
+    ∷ withPair blank 0 2 (v hour)
+    ∷ withPair blank 0 4 (v ordinal)
+    ∷ withBits blank 0 2 (v ordinal / 10 / 10 % 10)
+    ∷ withPair blank 0 4 (v year)
+    ∷ zoneRow v
+    ∷ qualityRow v
+    ∷ withBits blank 0 9 (v daySeconds % 512)
+    ∷ withBits blank 0 8 (v daySeconds / 512 % 512)
+    ∷ []
 
 -- rows one behind the other
 unfoldable pub joined : List (List ℕ) → List ℕ

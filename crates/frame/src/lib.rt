@@ -1,21 +1,22 @@
 // The IEEE1344 frame, form 8: ten groups of ten elements, 0, 1, or 2 for a position mark.
 ghost use mathlib.Core.Path.{_≡_};
-ghost use Rattle.forms.specs.Fields.Offset.{minusTold};
+ghost use Rattle.forms.specs.Fields.Offset.{encodeMinus};
 ghost use Rattle.forms.specs.Form.{Wrote, carries, readBy};
 ghost use Rattle.forms.specs.Frame.{frame};
-ghost use Rattle.forms.specs.Needs.{hasAll};
+ghost use Rattle.forms.specs.Required.{hasCarried};
 use record::Offset;
 use record::Record;
 use record::answer::Reading;
 use record::answer::Writing;
 use record::refusal::Refusal;
 
+mod decoding;
 mod groups;
-mod judge;
+mod parity;
 mod rows;
 mod shape;
 mod store;
-mod told;
+mod validation;
 
 // A wrong length or first byte is refused before anything else is looked at.
 pub fn read(s: &[u8]) -> Reading
@@ -30,15 +31,15 @@ pub fn read(s: &[u8]) -> Reading
     if !shape::has_shape(s) {
         return Reading::Refused(Refusal::WrongByte);
     }
-    if !judge::parity_holds(s) {
-        return Reading::Refused(Refusal::WrongSum);
+    if !parity::parity_holds(s) {
+        return Reading::Refused(Refusal::WrongChecksum);
     }
     // Sign 0 means an offset of zero or more.
-    judge::judged(s, groups::number_at(s, 64, 1))
+    validation::validate(s, groups::number_at(s, 64, 1))
 }
 
 fn has_carried(r: Record) -> bool
-    ensures { λ b. ⌜ b ≡ hasAll (carries frame) r ⌝ }
+    ensures { λ b. ⌜ b ≡ hasCarried (carries frame) r ⌝ }
 {
     let date = r.date;
     let sync = r.sync;
@@ -47,14 +48,16 @@ fn has_carried(r: Record) -> bool
     let dsp = r.dsp;
     let lsp = r.lsp;
     fields::has_full_date(date)
-        & (fields::has_flag(sync)
-            & (fields::has_flag(summer)
-                & (fields::has_offset(offset) & (fields::has_flag(dsp) & fields::has_flag(lsp)))))
+        & fields::has_flag(sync)
+        & fields::has_flag(summer)
+        & fields::has_offset(offset)
+        & fields::has_flag(dsp)
+        & fields::has_flag(lsp)
 }
 
 // Sign 0 means an offset of zero or more.
 fn sign_of(offset: Offset) -> u32
-    ensures { λ r. ⌜ r ≡ minusTold offset ⌝ }
+    ensures { λ r. ⌜ r ≡ encodeMinus offset ⌝ }
 {
     if fields::is_minus(offset) { 1 } else { 0 }
 }
@@ -65,7 +68,7 @@ pub fn write(r: Record, out: &mut [u8]) -> Writing
     let offset = r.offset;
     // An offset between two half hours has no element.
     let expressible = rows::half_hour_of(offset) < 2;
-    let answer = layout::admitted(r.is_good(), has_carried(r), expressible, 100, out.len());
+    let answer = places::admitted(r.is_good(), has_carried(r), expressible, 100, out.len());
     match answer {
         Writing::Written(n) => {
             store::store(r, sign_of(offset), out);

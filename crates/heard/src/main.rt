@@ -1,25 +1,29 @@
 // Prints the time strings of a stream on standard input: a first line with the form's number, then the stream.
+ghost use mathlib.Core.List.{List};
 ghost use mathlib.Core.Path.{_≡_};
-ghost use Prim.Native.Nat.{_+_, _/_, _≤_, _<_};
+ghost use Prim.Native.Nat.{ℕ, _+_, _/_, _≤_, _<_};
 ghost use lib.ListN.{length};
 ghost use Rattle.forms.specs.Valid.{lengthOf};
-ghost use Rattle.scan.specs.Printed.{recordsIn};
+ghost use Rattle.report.specs.Piece.{ReportedPiece};
+ghost use Rattle.report.specs.declared.piece.PieceReport.the-variants as piece;
+ghost use Rattle.heard.specs.Counted.{Counted};
+ghost use Rattle.heard.specs.Output.{Output};
 use libc::STDIN_FILENO;
 use libc::STDOUT_FILENO;
 use record::answer::Writing;
-use scan::Report;
+use report::PieceReport;
 
-// What one read brought.
-struct Brought {
-    got: usize,
+// What a piece brought, and whether it was written.
+struct Printed {
     telegrams: usize,
     carried: usize,
     written: bool,
 }
 
-// How many telegrams a piece has, and whether they were written.
-struct Printed {
-    telegrams: usize,
+// What the stream brought, and whether all of it was written.
+struct Total {
+    bytes: u64,
+    telegrams: u64,
     written: bool,
 }
 
@@ -38,58 +42,41 @@ fn read_some(part: &mut [u8]) -> usize
     io::count(got, part)
 }
 
-// All records of a piece go out in one write. The first `carried` bytes were in the piece before, and hold no whole string.
-fn print(form: u32, piece: &[u8], carried: usize, out: &mut [u8]) -> Printed
-    requires { ⌜ (carried < lengthOf form) × ((carried ≤ length (now piece)) × (length (now piece) ≤ length (now out) / 11)) ⌝ }
-    ensures { λ p. ⌜ (p .telegrams ≡ length (recordsIn form (now (piece .entry)))) × (carried + p .telegrams ≤ length (now (piece .entry))) ⌝ }
+// All that the program writes goes through here. False where the write fails.
+fn print(text: &[u8]) -> bool
+    requires { ⌜ Output (now text) ⌝ }
 {
-    match scan::write_records(form, piece, out) {
-        Report::Written { telegrams, bytes } => Printed {
+    io::write_all(STDOUT_FILENO, text)
+}
+
+// All records of a piece go out in one write.
+fn print_piece(form: u32, carried: usize, got: usize, buffer: &mut [u8], out: &mut [u8]) -> Printed
+    requires { ⌜ (0 < lengthOf form) × (length (now buffer) ≤ length (now out) / 11) ⌝ }
+    ensures { λ p. ⌜ ((bytes : ℕ) × ReportedPiece form carried got (piece.Written (p .telegrams) bytes (p .carried)) (now (buffer .entry)) (now (out .entry)) (now (buffer .exit)) (now (out .exit))) ⌝ }
+{
+    match report::report_piece(form, carried, got, buffer, out) {
+        PieceReport::Written {
             telegrams,
-            written: io::write_all(STDOUT_FILENO, &out[..bytes]),
+            bytes,
+            carried,
+        } => Printed {
+            telegrams,
+            carried,
+            written: print(&out[..bytes]),
         },
-        Report::Refused(_) => Printed {
+        PieceReport::Refused(_) => Printed {
             telegrams: 0,
+            carried: 0,
             written: false,
         },
     }
 }
 
-// One read behind the bytes carried: its records are printed, and its last bytes carried on.
-fn turn(form: u32, carried: usize, buffer: &mut [u8], out: &mut [u8]) -> Brought
-    requires { ⌜ (carried < lengthOf form) × ((carried ≤ length (now buffer)) × (length (now buffer) ≤ length (now out) / 11)) ⌝ }
-    ensures { λ t. ⌜ (t .got ≤ length (now (buffer .entry))) × ((t .telegrams ≤ t .got) × (t .carried < lengthOf form)) ⌝ }
-{
-    let got = read_some(&mut buffer[carried..]);
-    let end = carried + got;
-    let p = print(form, &buffer[..end], carried, out);
-    Brought {
-        got,
-        telegrams: p.telegrams,
-        carried: scan::carry_over(form, buffer, end),
-        written: p.written,
-    }
-}
-
-fn print_end(bytes: u64, telegrams: u64, out: &mut [u8]) {
-    match scan::write_end(bytes, telegrams, out) {
-        Writing::Written(n) => {
-            io::write_all(STDOUT_FILENO, &out[..n]);
-        }
-        Writing::Refused(_) => {}
-    }
-}
-
-// The last line has 62 bytes at the most.
-fn finish(bytes: u64, telegrams: u64) {
-    let mut line = [0u8; 62];
-    print_end(bytes, telegrams, &mut line);
-}
-
-// `left` counts down from more bytes than any stream has, so that the loop ends and no count runs over. Where a write fails the last
-// line is not written either.
-fn listen(form: u32)
+// `left` counts down from more bytes than any stream has, so that the loop ends and no count runs over. Where a write fails nothing more
+// is read.
+fn listen(form: u32) -> Total
     requires { ⌜ 0 < lengthOf form ⌝ }
+    ensures { λ t. ⌜ ((carried : ℕ) × (buffer : List ℕ) × Counted form carried buffer (t .bytes) (t .telegrams)) ⌝ }
 {
     let mut buffer = io::large_buffer();
     let mut out = output();
@@ -97,27 +84,60 @@ fn listen(form: u32)
     let mut telegrams: u64 = 0;
     let mut left = u64::MAX;
     while 65536 <= left {
-        let t = turn(form, carried, &mut buffer, &mut out);
-        if t.got == 0 {
+        let got = read_some(&mut buffer[carried..]);
+        if got == 0 {
             break;
         }
-        if !t.written {
-            return;
+        let p = print_piece(form, carried, got, &mut buffer, &mut out);
+        if !p.written {
+            return Total {
+                bytes: u64::MAX - left,
+                telegrams,
+                written: false,
+            };
         }
-        carried = t.carried;
-        telegrams += t.telegrams as u64;
-        left -= t.got as u64;
+        carried = p.carried;
+        telegrams += p.telegrams as u64;
+        left -= got as u64;
     }
-    finish(u64::MAX - left, telegrams);
+    Total {
+        bytes: u64::MAX - left,
+        telegrams,
+        written: true,
+    }
 }
 
+// The last line, of what was read and counted.
+fn print_end(bytes: u64, telegrams: u64, out: &mut [u8])
+    requires { ⌜ ((form : ℕ) × (carried : ℕ) × (buffer : List ℕ) × Counted form carried buffer bytes telegrams) ⌝ }
+{
+    match report::write_end(bytes, telegrams, out) {
+        Writing::Written(n) => {
+            print(&out[..n]);
+        }
+        Writing::Refused(_) => {}
+    }
+}
+
+// It has 62 bytes at the most.
+fn finish(bytes: u64, telegrams: u64)
+    requires { ⌜ ((form : ℕ) × (carried : ℕ) × (buffer : List ℕ) × Counted form carried buffer bytes telegrams) ⌝ }
+{
+    let mut line = [0u8; 62];
+    print_end(bytes, telegrams, &mut line);
+}
+
+// Where a write failed the last line is not written either.
 fn main() {
     let mut line = [0u8; 2];
     let n = io::read_full(STDIN_FILENO, &mut line);
-    let form = scan::form_of(&line[..n]);
+    let form = report::form_of(&line[..n]);
     if serial::length_of(form) == 0 {
-        io::write_all(STDOUT_FILENO, b"refused=1\n");
+        print(b"refused=1\n");
         return;
     }
-    listen(form);
+    let total = listen(form);
+    if total.written {
+        finish(total.bytes, total.telegrams);
+    }
 }

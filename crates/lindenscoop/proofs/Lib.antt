@@ -4,3 +4,6 @@ pub mod Runs
 pub mod Small
 pub mod Written
 pub mod Chained
+pub mod Used
+pub mod UsedUp
+pub mod Repeated

@@ -1,11 +1,6 @@
 -- What room there is, and what stands at the head of a buffer that has it.
-use mathlib.Core.Bool.{Bool, true, false, not}
-use mathlib.Core.List.{List}
-use mathlib.Core.Path.{_≡_, refl, sym, _∙_, ap}
-use Prim.Native.Nat.{ℕ, _≤_}
-use borrow.Author.Tests.{leb-true}
-use lib.ListN.{length}
-use Rattle.choice.proofs.Tests.{both}
+use Rattle.cond.proofs.Kit.{_∙_, _≡_, _≤_, ap, Bool, false, leb-true, length, List, not, refl, sym, true, ℕ}
+use Rattle.cond.proofs.Tests.{both}
 use Rattle.record.specs.declared.Record.{Record}
 use Rattle.record.specs.declared.answer.Writing.{Writing}
 use Rattle.stream.specs.Answer.{Answer}

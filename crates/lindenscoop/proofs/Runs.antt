@@ -1,12 +1,5 @@
 -- A run over bytes, byte by byte.
-use mathlib.Core.Bool.{true, false}
-use mathlib.Core.List.{List}
-use mathlib.Core.Path.{_≡_, sym, _∙_, ap}
-use Prim.Native.Nat.{ℕ, suc, _+_, _≤_, _<_}
-use native.Mathlib.Numerals.{add-one}
-use native.Mathlib.Omega.{arith}
-use lib.ListN.{length, getD, drop, drop-of-length-le}
-use lib.Seq.{drop-cons}
+use Rattle.cond.proofs.Kit.{_+_, _<_, _∙_, _≡_, _≤_, add-one, ap, arith, drop, drop-cons, drop-of-length-le, false, getD, length, List, suc, sym, true, ℕ}
 use Rattle.stream.specs.Answer.{nothing}
 use Rattle.listener.specs.declared.Heard.{Heard}
 use Rattle.listener.specs.declared.Heard.the-variants as heard

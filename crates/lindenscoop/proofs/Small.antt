@@ -1,13 +1,6 @@
 -- The numbers of a listener that stands in bytes, and of the one that a byte leaves, fit a byte.
-use mathlib.Core.Bool.{Bool, true, false}
-use mathlib.Core.List.{List, [], _∷_}
-use mathlib.Core.Path.{_≡_, refl}
-use Prim.Native.Nat.{ℕ, _+_, _-_, _≤_, _<_}
-use native.Mathlib.Omega.{arith}
-use mir.Syntax.{w8}
-use mir.Val.{Fits}
-use lib.ListN.{getD}
-use Rattle.choice.specs.Pick.{pick}
+use Rattle.cond.proofs.Kit.{[], _+_, _-_, _<_, _∷_, _≡_, _≤_, arith, Bool, false, Fits, getD, List, refl, true, w8, ℕ}
+use Rattle.cond.specs.Pick.{pick}
 use Rattle.record.specs.declared.Record.{Record}
 use Rattle.forms.specs.Valid.{lengthOf}
 use Rattle.serial.proofs.Lengths.{length-most, serial-low}

@@ -23,7 +23,8 @@ stateFits s = leb stateSize (length s)
 abbrev pub bothFit : List ℕ → List ℕ → Bool
 bothFit s r = stateFits s && recordFits r
 
--- the refusal for want of room, which is tested before all else and changes nothing
+-- "the buffer is shorter than the output": the refusal for want of room, which is tested before all else; no buffer is changed, and a length,
+-- a place or a count of bytes is 0
 abbrev pub tooShort : ℕ
 tooShort = numberOf refusal.ShortBuffer
 

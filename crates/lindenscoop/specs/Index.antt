@@ -9,6 +9,7 @@ use Rattle.forms.specs.Valid.{lengthOf, validOf}
 use Rattle.stream.specs.Heard.{heardAll}
 use Rattle.listener.specs.Marks.{markAnswer, marksOf}
 
+-- "Byte k .. hands out the record of bytes k-n+1 to k .., else nothing": a mark for each byte; or refusal 1 or 10 and no mark changed
 pub record MarkedAs (form : ℕ) (s before : List ℕ) (n : ℕ) (after : List ℕ) : Type 0 where
   pub number : n ≡ writeNumber (markAnswer form (length s) (length before))
   pub left : after ≡ leftOf (markAnswer form (length s) (length before)) (marksOf (heardAll (lengthOf form) (validOf form) s)) before

@@ -5,4 +5,5 @@ pub mod Listener
 pub mod Search
 pub mod Telegrams
 pub mod Chained
+pub mod Repeated
 pub mod Index

@@ -11,7 +11,7 @@ ringSize = 66
 abbrev pub stateSize : ℕ
 stateSize = ringSize + 4
 
--- the listener that bytes hold; every row of so many bytes is one
+-- the listener that bytes hold; every list of so many bytes is one
 unfoldable pub listenerOf : List ℕ → Listener
 listenerOf s =
     record {

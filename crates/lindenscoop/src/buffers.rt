@@ -4,22 +4,22 @@ ghost use Rattle.lindenscoop.specs.Buffers.{bothFit, recordFits, stateFi
 use crate::state::STATE_BYTES;
 
 // The answer where there is none: refusal 10.
-pub const TOO_SHORT: u32 = 10;
+pub(crate) const TOO_SHORT: u32 = 10;
 
-pub fn record_fits(row: &[u32]) -> bool
-    ensures { λ r. ⌜ r ≡ recordFits (now (row .entry)) ⌝ }
+pub(crate) fn record_fits(numbers: &[u32]) -> bool
+    ensures { λ r. ⌜ r ≡ recordFits (now (numbers .entry)) ⌝ }
 {
-    flat_record::SIZE <= row.len()
+    flat_record::SIZE <= numbers.len()
 }
 
-pub fn state_fits(state: &[u8]) -> bool
+pub(crate) fn state_fits(state: &[u8]) -> bool
     ensures { λ r. ⌜ r ≡ stateFits (now (state .entry)) ⌝ }
 {
     STATE_BYTES <= state.len()
 }
 
-pub fn both_fit(state: &[u8], row: &[u32]) -> bool
-    ensures { λ r. ⌜ r ≡ bothFit (now (state .entry)) (now (row .entry)) ⌝ }
+pub(crate) fn both_fit(state: &[u8], numbers: &[u32]) -> bool
+    ensures { λ r. ⌜ r ≡ bothFit (now (state .entry)) (now (numbers .entry)) ⌝ }
 {
-    (STATE_BYTES <= state.len()) & (flat_record::SIZE <= row.len())
+    (STATE_BYTES <= state.len()) & (flat_record::SIZE <= numbers.len())
 }

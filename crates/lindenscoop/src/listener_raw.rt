@@ -25,13 +25,13 @@ fn heard_number(heard: Heard) -> u32
 }
 
 // Stores a record that was handed out.
-fn put_heard(heard: Heard, row: &mut [u32])
-    requires { ⌜ recordFits (now row) ≡ true ⌝ }
-    ensures { λ _. ⌜ now (row .exit) ≡ answerNumbers (answerOf heard) (now (row .entry)) ⌝ }
+fn put_heard(heard: Heard, numbers: &mut [u32])
+    requires { ⌜ recordFits (now numbers) ≡ true ⌝ }
+    ensures { λ _. ⌜ now (numbers .exit) ≡ answerNumbers (answerOf heard) (now (numbers .entry)) ⌝ }
 {
     match heard {
         Heard::Handed(r) => {
-            flat_record::put_record(r, row);
+            flat_record::put_record(r, numbers);
         }
         Heard::Nothing => {}
         Heard::Refused(_) => {}
@@ -55,17 +55,17 @@ pub extern "C" fn lindenscoop_start_raw(form: u32, state: &mut [u8]) -> u32
 
 // One byte; the record is changed where one is handed out.
 #[no_mangle]
-pub extern "C" fn lindenscoop_feed_raw(state: &mut [u8], byte: u8, row: &mut [u32]) -> u32
-    ensures { λ n. ⌜ FedAs (now (state .entry)) byte (now (row .entry)) n (now (state .exit)) (now (row .exit)) ⌝ }
+pub extern "C" fn lindenscoop_feed_raw(state: &mut [u8], byte: u8, numbers: &mut [u32]) -> u32
+    ensures { λ n. ⌜ FedAs (now (state .entry)) byte (now (numbers .entry)) n (now (state .exit)) (now (numbers .exit)) ⌝ }
 {
-    if !both_fit(state, row) {
+    if !both_fit(state, numbers) {
         return TOO_SHORT;
     }
     let fed = listener_of(state).feed(byte);
     let next = fed.next;
     let heard = fed.heard;
     put_state(next, state);
-    put_heard(heard, row);
+    put_heard(heard, numbers);
     heard_number(heard)
 }
 
@@ -75,12 +75,13 @@ pub extern "C" fn lindenscoop_feed_all_raw(
     state: &mut [u8],
     bytes: &[u8],
     used: &mut usize,
-    row: &mut [u32],
+    numbers: &mut [u32],
 ) -> u32
-    ensures { λ n. ⌜ FedAllAs (now (state .entry)) (now (bytes .entry)) (now (used .entry)) (now (row .entry)) n
-        (now (state .exit)) (now (used .exit)) (now (row .exit)) ⌝ }
+    ensures { λ n. ⌜ FedAllAs (now (state .entry)) (now (bytes .entry)) (now (numbers .entry)) n
+        (now (state .exit)) (now (used .exit)) (now (numbers .exit)) ⌝ }
 {
-    if !both_fit(state, row) {
+    if !both_fit(state, numbers) {
+        *used = 0;
         return TOO_SHORT;
     }
     let ran = feed_until(listener_of(state), bytes);
@@ -88,6 +89,6 @@ pub extern "C" fn lindenscoop_feed_all_raw(
     let heard = ran.heard;
     put_state(next, state);
     *used = ran.used;
-    put_heard(heard, row);
+    put_heard(heard, numbers);
     heard_number(heard)
 }

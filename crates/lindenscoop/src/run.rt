@@ -22,7 +22,7 @@ fn is_answer(heard: Heard) -> bool
     }
 }
 
-pub fn feed_until(start: Listener, bytes: &[u8]) -> Ran
+pub(crate) fn feed_until(start: Listener, bytes: &[u8]) -> Ran
     ensures { λ r. ⌜ RanAs start (now (bytes .entry)) r ⌝ }
 {
     let mut listener = start;

@@ -10,15 +10,16 @@ pub extern "C" fn lindenscoop_search_raw(
     bytes: &[u8],
     start: usize,
     place: &mut usize,
-    row: &mut [u32],
+    numbers: &mut [u32],
 ) -> u32
-    ensures { λ n. ⌜ SearchedAs form (now (bytes .entry)) start (now (place .entry)) (now (row .entry)) n (now (place .exit)) (now (row .exit)) ⌝ }
+    ensures { λ n. ⌜ SearchedAs form (now (bytes .entry)) start (now (numbers .entry)) n (now (place .exit)) (now (numbers .exit)) ⌝ }
 {
-    if !record_fits(row) {
+    if !record_fits(numbers) {
+        *place = 0;
         return TOO_SHORT;
     }
     let finding = search::search(form, bytes, start);
     *place = finding.place();
-    flat_record::put_record(finding.record(), row);
+    flat_record::put_record(finding.record(), numbers);
     finding.number()
 }

@@ -15,7 +15,7 @@ const DISTANCE: usize = KEPT + 1;
 
 const FORM: usize = DISTANCE + 1;
 
-pub const STATE_BYTES: usize = FORM + 1;
+pub(crate) const STATE_BYTES: usize = FORM + 1;
 
 fn ring_of(s: &[u8]) -> [u8; AT]
     requires { ⌜ stateSize ≤ length (now s) ⌝ }
@@ -42,7 +42,7 @@ fn wide_form(x: u8) -> u32
     x as u32
 }
 
-pub fn listener_of(s: &[u8]) -> Listener
+pub(crate) fn listener_of(s: &[u8]) -> Listener
     requires { ⌜ stateSize ≤ length (now s) ⌝ }
     ensures { λ l. ⌜ l ≡ listenerOf (now (s .entry)) ⌝ }
 {
@@ -62,7 +62,7 @@ fn ring_in(l: Listener) -> [u8; AT]
     ring
 }
 
-pub fn put_state(l: Listener, out: &mut [u8])
+pub(crate) fn put_state(l: Listener, out: &mut [u8])
     requires { ⌜ (stateSize ≤ length (now out)) × Storable l ⌝ }
     ensures { λ _. ⌜ now (out .exit) ≡ stateBytes l ++ drop stateSize (now (out .entry)) ⌝ }
 {

@@ -1,25 +1,20 @@
 -- The listener over the ring answers byte by byte as the step over the kept bytes does, of which demand 3 holds over any form.
-use mathlib.Core.Bool.{true}
-use mathlib.Core.List.{List, [], _∷_}
-use mathlib.Core.Path.{_≡_, refl, sym, _∙_, ap}
-use Prim.Native.Nat.{ℕ, zero, suc, _+_, _-_, _≤_, _<_}
-use native.Mathlib.Omega.{arith}
-use lib.ListN.{length, getD, length-set}
-use Rattle.forms.specs.Forms.{isSerial, layoutOf}
+use Rattle.cond.proofs.Kit.{[], _+_, _-_, _<_, _∙_, _∷_, _≡_, _≤_, ap, arith, getD, length, length-set, List, refl, suc, sym, true, zero, ℕ}
+use Rattle.forms.specs.Forms.{isSerial, formKindOf}
 use Rattle.forms.specs.Valid.{lengthOf, validOf}
 use Rattle.serial.proofs.Lengths.{length-most, serial-long}
 use Rattle.serial.proofs.Strings.{serial-strings}
 use Rattle.stream.specs.Answer.{nothing, refused}
-use Rattle.stream.specs.Distance.{State, fresh, stepAnswer, stepNext}
+use Rattle.stream.specs.Distance.{Since, State, fresh, stepAnswer, stepNext}
 use Rattle.stream.specs.Heard.{heardAll}
-use Rattle.stream.specs.Machine.{answers}
+use Rattle.stream.specs.Machine.{answers, stateAfter}
 use Rattle.stream.specs.Window.{lastOf}
-use Rattle.stream.proofs.Distance.{fits-next, step-hears}
+use Rattle.stream.proofs.Distance.{fits-next, step-counts, step-hears, step-keeps}
 use Rattle.stream.proofs.Listens.{listens-by}
-use Rattle.stream.proofs.Machine.{same-answers}
+use Rattle.stream.proofs.Machine.{same-answers, same-states}
 use Rattle.serial.specs.Shape.{longest}
 use Rattle.listener.specs.Demand3.{Demand3}
-use Rattle.listener.specs.Listening.{answerBy, answerTo, hears, isBad, movedBy, nextBy, nextOf, silent, startedOf, stateOf}
+use Rattle.listener.specs.Listening.{answerBy, answerTo, hears, isBad, listenerAfter, movedBy, nextBy, nextOf, silent, startedOf, stateOf}
 use Rattle.listener.specs.Ring.{oldestFirst, placeOf}
 use Rattle.listener.specs.declared.Listener.{Listener}
 use Rattle.listener.proofs.Rings.{place-small, place-wrapped}
@@ -89,10 +84,23 @@ module _ (f : ℕ) (serial : isSerial f ≡ true) where
       fresh-alike
       ∙ step-hears (n - 1) n (validOf f) (serial-strings f some-byte) (omega (arith, some-byte)) s)
 
+  -- the listener is in a state like the step's after any bytes
+  state-after : (s : List ℕ) → stateOf (listenerAfter f s) ≡ stateAfter (stepNext (n - 1) n (validOf f)) (fresh n) s
+  unfolding listenerAfter
+  state-after s =
+      rw (fresh-is f serial) (same-states nextOf (stepNext (n - 1) n (validOf f)) Alike next-alike (silent f n) (fresh n) s fresh-alike .1)
+
+  pub kept-after : (s : List ℕ) → stateOf (listenerAfter f s) .kept ≡ lastOf (n - 1) s
+  kept-after s =
+      ap State.kept (state-after s) ∙ step-keeps (n - 1) n (validOf f) (serial-strings f some-byte) (omega (arith, some-byte)) s
+
+  pub distance-after : (s : List ℕ) → Since n (validOf f) s (stateOf (listenerAfter f s) .distance)
+  distance-after s = rw (state-after s) (step-counts (n - 1) n (validOf f) (serial-strings f some-byte) (omega (arith, some-byte)) s)
+
 -- a start refused with 1
 
 unheard : (b : ℕ) → (answerTo (silent 0 0) b ≡ refused 11) × (nextOf (silent 0 0) b ≡ silent 0 0)
-unfolding answerTo answerBy nextOf nextBy isBad isSerial layoutOf
+unfolding answerTo answerBy nextOf nextBy isBad isSerial formKindOf
 unheard b = (refl, refl)
 
 all-refused : (s : List ℕ) (i : ℕ) → i < length s → getD (answers nextOf answerTo (silent 0 0) s) i nothing ≡ refused 11
@@ -106,6 +114,8 @@ unfolding hears startedOf
 demand-3 =
     record {
       heard = λ f e. listens-by (lengthOf f) (validOf f) (serial-strings f (serial-long f e)) (hears f) (hears-all f e);
+      kept = kept-after;
+      distance = distance-after;
       started = start-known;
       not-started = start-unknown;
       after-refusal = λ f e s k l m. rw (refused-form f e) (all-refused s (k - 1) (omega arith));

@@ -1,13 +1,6 @@
 -- The marks still to be stored make of the marks as they are what the marks of all bytes make of those at entry.
-use mathlib.Core.Bool.{true, false}
-use mathlib.Core.List.{List, [], _∷_}
-use mathlib.Core.Path.{_≡_, refl, _∙_, ap}
-use Prim.Native.Nat.{ℕ, suc, _+_, _≤_, _<_}
-use native.Mathlib.Numerals.{add-one}
-use native.Mathlib.Omega.{arith}
-use borrow.Author.Tests.{le-leb, lt-leb}
-use lib.ListN.{length, getD, drop, set, drop-of-length-le}
-use lib.Seq.{drop-cons, sets, sets-eq}
+use Rattle.cond.proofs.Kit.{[], _+_, _<_, _∙_, _∷_, _≡_, _≤_, add-one, ap, arith, drop, drop-cons, drop-of-length-le, false, getD, le-leb, length, List}
+use Rattle.cond.proofs.Kit.{lt-leb, refl, set, sets, sets-eq, suc, true, ℕ}
 use Rattle.record.specs.declared.Record.{Record}
 use Rattle.record.specs.declared.answer.Writing.the-variants as writing
 use Rattle.record.specs.declared.refusal.Refusal.the-variants as refusal

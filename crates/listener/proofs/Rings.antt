@@ -1,15 +1,8 @@
 -- A ring as a list, oldest byte first: a byte stored at the oldest place becomes the newest.
-use mathlib.Core.Bool.{Bool, true, false}
-use mathlib.Core.List.{List, [], _∷_, _++_, append-assoc, append-nil}
-use mathlib.Core.Path.{_≡_, refl, sym, _∙_, ap}
-use Prim.Native.Nat.{ℕ, suc, _+_, _-_, _≤_, _<_}
-use native.Mathlib.Numerals.{add-one}
-use native.Mathlib.Omega.{arith}
-use borrow.Author.Tests.{le-ltb, lt-ltb, ltb-false, ltb-true}
-use lib.Dec.{ltb}
-use lib.ListN.{length, getD, take, drop, set, drop-of-length-le, length-append, length-drop, length-take, List·getD-append}
-use lib.Seq.{drop-append-le, drop-drop, drop-set-lt, ext-getD, getD-append-add, getD-drop, getD-take, set-split, take-suc, take-suc-set}
-use Rattle.choice.specs.Pick.{pick}
+use Rattle.cond.proofs.Kit.{[], _++_, _+_, _-_, _<_, _∙_, _∷_, _≡_, _≤_, add-one, ap, append-assoc, append-nil, arith, Bool, drop, drop-append-le, drop-drop, drop-of-length-le}
+use Rattle.cond.proofs.Kit.{drop-set-lt, ext-getD, false, getD, getD-append-add, getD-drop, getD-take, le-ltb, length, length-append, length-drop, length-take, List, List·getD-append}
+use Rattle.cond.proofs.Kit.{lt-ltb, ltb, ltb-false, ltb-true, refl, set, set-split, suc, sym, take, take-suc, take-suc-set, true, ℕ}
+use Rattle.cond.specs.Pick.{pick}
 use Rattle.stream.specs.Window.{lastOf}
 use Rattle.serial.specs.Shape.{longest}
 use Rattle.listener.specs.Ring.{oldestFirst, placeOf, wrapped}
@@ -82,7 +75,7 @@ module _ (y : List ℕ) (at : ℕ) (h : at < longest) (size : length y ≡ longe
           let n2 : length y ≤ suc at = omega arith in
           rw (drop-append-le 1 (drop at y) (take at y) one, drop-drop 1 at y, drop-of-length-le y n, z, append-nil, set-split y at b l, drop-of-length-le y n2)
 
-  -- one byte more in a row
+  -- one byte more in a layout
   pub one-more : (z : List ℕ) (i j : ℕ) → i < longest → length z ≡ longest → j ≡ wrapped (at + i) → take i z ≡ take i (oldestFirst at y)
       → take (i + 1) (set z i (getD y j 0)) ≡ take (i + 1) (oldestFirst at y)
   one-more z i j l s q e =

@@ -1,9 +1,6 @@
 -- A listener starts fresh for a serial form; for any other the start is refused with 1.
-use mathlib.Core.Bool.{Bool, true, false}
-use mathlib.Core.Path.{_≡_, refl}
-use Prim.Native.Nat.{ℕ}
-use native.Mathlib.Omega.{arith}
-use Rattle.choice.specs.Pick.{pick}
+use Rattle.cond.proofs.Kit.{_≡_, arith, Bool, false, refl, true, ℕ}
+use Rattle.cond.specs.Pick.{pick}
 use Rattle.record.specs.declared.refusal.Refusal.the-variants as refusal
 use Rattle.forms.specs.Forms.{isSerial}
 use Rattle.forms.specs.Valid.{lengthOf}

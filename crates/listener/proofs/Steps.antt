@@ -1,15 +1,7 @@
 -- A state of the ring is a state of the stream: a byte stored in the ring moves it on as the step over the kept bytes does.
-use mathlib.Core.Bool.{Bool, true, false, not, _||_}
-use mathlib.Core.List.{List, [], _∷_, _++_}
-use mathlib.Core.Option.{none}
-use mathlib.Core.Path.{_≡_, refl, sym, _∙_, ap}
-use Prim.Native.Nat.{ℕ, _+_, _-_, _≤_, _<_, min}
-use native.Mathlib.Omega.{arith}
-use borrow.Author.Tests.{eqb-false, eqb-true, le-leb, le-ltb, lt-leb, lt-ltb}
-use lib.Dec.{eqb, leb, ltb}
-use lib.ListN.{length, getD, drop, set, length-append, length-drop, length-set}
-use lib.Seq.{drop-append-le, drop-drop, getD-at, getD-drop}
-use Rattle.choice.specs.Pick.{pick}
+use Rattle.cond.proofs.Kit.{[], _++_, _+_, _-_, _<_, _||_, _∙_, _∷_, _≡_, _≤_, ap, arith, Bool, drop, drop-append-le, drop-drop, eqb, eqb-false, eqb-true, false, getD, getD-at}
+use Rattle.cond.proofs.Kit.{getD-drop, le-leb, le-ltb, leb, length, length-append, length-drop, length-set, List, lt-leb, lt-ltb, ltb, min, none, not, refl, set, sym, true, ℕ}
+use Rattle.cond.specs.Pick.{pick}
 use Rattle.record.specs.declared.answer.Reading.{Reading}
 use Rattle.record.specs.declared.refusal.Refusal.the-variants as refusal
 use Rattle.forms.specs.Forms.{isSerial}
@@ -137,9 +129,9 @@ module _ (l : Listener) (b n : ℕ) (is : n ≡ lengthOf (l .form)) where
         → FedBy l b (record { next = record { bytes = y; at = up; kept = kept; distance = distance; form = l .form }; heard = answer })
     unfolding nextOf nextBy movedBy answerBy stepAnswer stateOf
     moves-on place up kept distance y reading answer ep ey eu er ea ek ed =
-        record { next = rw (← is, not-bad n l is small near, ek, ed, told, eu, ey, ep); answer = told ∙ sym answer-is }
+        record { next = rw (← is, not-bad n l is small near, ek, ed, encode, eu, ey, ep); answer = encode ∙ sym answer-is }
       where
-        told : answerOf answer ≡ unlessOverlap n (l .distance) (hit n (validOf (l .form)) (stateOf l .kept) b)
-        told =
+        encode : answerOf answer ≡ unlessOverlap n (l .distance) (hit n (validOf (l .form)) (stateOf l .kept) b)
+        encode =
             let o : recordIn reading ≡ hit n (validOf (l .form)) (stateOf l .kept) b = er ∙ rw (eu, ey, ep) (hit-ring l b n sized small most (l .form)) in
             ea ∙ ap (unlessOverlap n (l .distance)) o

@@ -1,14 +1,6 @@
 -- A byte that is not the form's last one, or a ring that has another byte where the string would begin, completes no string.
-use mathlib.Core.Bool.{Bool, true, false}
-use mathlib.Core.List.{List}
-use mathlib.Core.Option.{none}
-use mathlib.Core.Path.{_≡_, refl, sym, _∙_, ap}
-use Prim.Native.Nat.{ℕ, _+_, _-_, _≤_, _<_}
-use native.Mathlib.Nat.{add-zero}
-use native.Mathlib.Omega.{arith}
-use lib.ListN.{length, getD, length-drop}
-use lib.Seq.{getD-drop}
-use Rattle.choice.specs.Pick.{pick}
+use Rattle.cond.proofs.Kit.{_+_, _-_, _<_, _∙_, _≡_, _≤_, add-zero, ap, arith, Bool, false, getD, getD-drop, length, length-drop, List, none, refl, sym, true, ℕ}
+use Rattle.cond.specs.Pick.{pick}
 use Rattle.forms.specs.Valid.{endOf, startOf, validOf}
 use Rattle.stream.specs.Window.{lastOf}
 use Rattle.serial.proofs.Strings.{wrong-end, wrong-start}

@@ -5,7 +5,7 @@ use mathlib.Core.Path.{_≡_}
 use Prim.Native.Nat.{ℕ, _+_, _-_, min}
 use lib.Dec.{ltb}
 use lib.ListN.{replicate, set}
-use Rattle.choice.specs.Pick.{pick}
+use Rattle.cond.specs.Pick.{pick}
 use Rattle.record.specs.declared.Record.{Record}
 use Rattle.record.specs.declared.refusal.Refusal.the-variants as refusal
 use Rattle.record.specs.Refusal.{numberOf}
@@ -13,7 +13,7 @@ use Rattle.forms.specs.Forms.{isSerial}
 use Rattle.forms.specs.Valid.{lengthOf, validOf}
 use Rattle.stream.specs.Answer.{Answer, handed, nothing, refused}
 use Rattle.stream.specs.Distance.{State, distanceAfter, stepAnswer}
-use Rattle.stream.specs.Machine.{answers}
+use Rattle.stream.specs.Machine.{answers, stateAfter}
 use Rattle.stream.specs.Window.{lastOf}
 use Rattle.serial.specs.Shape.{longest}
 use Rattle.listener.specs.Ring.{oldestFirst, placeOf, wrapped}
@@ -88,3 +88,7 @@ startNumber (starting.Refused x) = numberOf x
 -- "start a listener afresh for that form and feed it the list byte by byte, each to the state that the byte before it left"
 unfoldable pub hears : ℕ → List ℕ → List (Answer Record)
 hears form s = answers nextOf answerTo (startedOf form .listener) s
+
+-- the listener that the last byte of the list leaves
+unfoldable pub listenerAfter : ℕ → List ℕ → Listener
+listenerAfter form s = stateAfter nextOf (startedOf form .listener) s

@@ -6,7 +6,7 @@ use lib.Dec.{ltb}
 use lib.ListN.{getD, take, drop}
 use Rattle.serial.specs.Shape.{longest, shapeOf}
 use Rattle.serial.specs.declared.Shape.{Shape}
-use Rattle.choice.specs.Pick.{pick}
+use Rattle.cond.specs.Pick.{pick}
 
 -- the place of a number below two rounds
 abbrev pub wrapped : ℕ → ℕ

@@ -3,7 +3,7 @@ ghost use mathlib.Core.Path.{_≡_};
 ghost use mathlib.Core.Option.{none};
 ghost use lib.Dec.{eqb};
 ghost use Prim.Native.Nat.{_+_, _-_, _≤_, _<_, min};
-ghost use Rattle.choice.specs.Pick.{pick};
+ghost use Rattle.cond.specs.Pick.{pick};
 ghost use Rattle.forms.specs.Valid.{recordIn, validOf};
 ghost use Rattle.serial.specs.Shape.{longest};
 ghost use Rattle.stream.specs.Distance.{distanceAfter, unlessOverlap};

@@ -7,7 +7,7 @@ ghost use Rattle.serial.specs.Shape.{longest};
 use serial::LONGEST;
 
 // The place of a number below two rounds.
-pub fn wrap(k: usize) -> usize
+pub(crate) fn wrap(k: usize) -> usize
     requires { ⌜ k < longest + longest ⌝ }
     ensures { λ r. ⌜ (r ≡ wrapped k) × (r < longest) ⌝ }
 {
@@ -15,13 +15,13 @@ pub fn wrap(k: usize) -> usize
 }
 
 // Every number names a place.
-pub fn place(at: usize) -> usize
+pub(crate) fn place(at: usize) -> usize
     ensures { λ r. ⌜ (r ≡ placeOf at) × (r < longest) ⌝ }
 {
     if at < LONGEST { at } else { 0 }
 }
 
-pub fn with_byte(x: [u8; LONGEST], at: usize, b: u8) -> [u8; LONGEST]
+pub(crate) fn with_byte(x: [u8; LONGEST], at: usize, b: u8) -> [u8; LONGEST]
     requires { ⌜ at < longest ⌝ }
     ensures { λ r. ⌜ (r ≡ set x at b) × (length r ≡ longest) ⌝ }
 {
@@ -30,8 +30,8 @@ pub fn with_byte(x: [u8; LONGEST], at: usize, b: u8) -> [u8; LONGEST]
     y
 }
 
-// The n bytes from a place on, in a row; what stands behind them is of no account.
-pub fn in_order(y: [u8; LONGEST], from: usize, n: usize) -> [u8; LONGEST]
+// The n bytes from a place on, in a layout; what stands behind them is of no account.
+pub(crate) fn in_order(y: [u8; LONGEST], from: usize, n: usize) -> [u8; LONGEST]
     requires { ⌜ (from < longest) × (n ≤ longest) ⌝ }
     ensures { λ r. ⌜ take n r ≡ take n (oldestFirst from y) ⌝ }
 {

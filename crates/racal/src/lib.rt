@@ -1,14 +1,12 @@
 // The RACAL string, form 5: `XGUyymmddhhmmss<CR>`.
 ghost use mathlib.Core.Path.{_≡_};
-ghost use lib.ListN.{length};
 ghost use Rattle.forms.specs.Form.{Wrote, carries, readBy, valuesBy};
-ghost use Rattle.forms.specs.Needs.{hasAll};
+ghost use Rattle.forms.specs.Required.{hasCarried};
 ghost use Rattle.forms.specs.Places.{shape};
-ghost use Rattle.forms.specs.Serial.{racal, racalRow};
-ghost use Rattle.forms.specs.Spelled.{recordFrom};
-ghost use Rattle.forms.specs.Told.{told};
-ghost use Rattle.layout.specs.Admitted.{Storable};
-ghost use Rattle.layout.specs.Stores.{stores};
+ghost use Rattle.forms.specs.Serial.{racal, racalLayout};
+ghost use Rattle.forms.specs.Decode.{decode};
+ghost use Rattle.forms.specs.Encode.{encode};
+ghost use Rattle.places.specs.Stores.{stores};
 use record::Date;
 use record::Record;
 use record::answer::Reading;
@@ -16,31 +14,29 @@ use record::answer::Writing;
 use record::refusal::Refusal;
 
 fn has_shape(s: &[u8]) -> bool
-    requires { ⌜ length (now s) ≡ 16 ⌝ }
-    ensures { λ r. ⌜ r ≡ shape racalRow 0 (now (s .entry)) ⌝ }
+    ensures { λ r. ⌜ r ≡ shape racalLayout 0 (now (s .entry)) ⌝ }
 {
-    layout::text_at(s, 0, b"XGU")
-        & layout::digits_at(s, 3, 2)
-        & layout::digits_at(s, 5, 2)
-        & layout::digits_at(s, 7, 2)
-        & layout::digits_at(s, 9, 2)
-        & layout::digits_at(s, 11, 2)
-        & layout::digits_at(s, 13, 2)
-        & layout::text_at(s, 15, b"\r")
+    places::text_at(s, 0, b"XGU")
+        & places::digits_at(s, 3, 2)
+        & places::digits_at(s, 5, 2)
+        & places::digits_at(s, 7, 2)
+        & places::digits_at(s, 9, 2)
+        & places::digits_at(s, 11, 2)
+        & places::digits_at(s, 13, 2)
+        & places::text_at(s, 15, b"\r")
 }
 
 fn decode(s: &[u8]) -> Record
-    requires { ⌜ length (now s) ≡ 16 ⌝ }
-    ensures { λ r. ⌜ r ≡ recordFrom (carries racal) (valuesBy racal (now (s .entry))) ⌝ }
+    ensures { λ r. ⌜ r ≡ decode (carries racal) (valuesBy racal (now (s .entry))) ⌝ }
 {
     Record {
-        hour: layout::number_at(s, 9, 2),
-        minute: layout::number_at(s, 11, 2),
-        second: layout::number_at(s, 13, 2),
+        hour: places::number_at(s, 9, 2),
+        minute: places::number_at(s, 11, 2),
+        second: places::number_at(s, 13, 2),
         date: Date::Full {
-            year: layout::number_at(s, 3, 2),
-            month: layout::number_at(s, 5, 2),
-            day: layout::number_at(s, 7, 2),
+            year: places::number_at(s, 3, 2),
+            month: places::number_at(s, 5, 2),
+            day: places::number_at(s, 7, 2),
         },
         ..Record::empty()
     }
@@ -59,37 +55,36 @@ pub fn read(s: &[u8]) -> Reading
     if !has_shape(s) {
         return Reading::Refused(Refusal::WrongByte);
     }
-    layout::validate(decode(s))
+    places::validate(decode(s))
 }
 
 fn has_carried(r: Record) -> bool
-    ensures { λ b. ⌜ b ≡ hasAll (carries racal) r ⌝ }
+    ensures { λ b. ⌜ b ≡ hasCarried (carries racal) r ⌝ }
 {
     let date = r.date;
     fields::has_full_date(date)
 }
 
 fn store(r: Record, out: &mut [u8])
-    requires { ⌜ Storable racal r (length (now out)) ⌝ }
-    ensures { λ _. ⌜ now (out .exit) ≡ stores racalRow 0 (told r) (now (out .entry)) ⌝ }
+    ensures { λ _. ⌜ now (out .exit) ≡ stores racalLayout 0 (encode r) (now (out .entry)) ⌝ }
 {
     let date = r.date;
     spelling::put_bytes(out, 0, b"XGU");
-    layout::put_triple(
+    places::put_triple(
         out,
         3,
         fields::year_of(date),
         fields::month_of(date),
         fields::day_of(date),
     );
-    layout::put_triple(out, 9, r.hour, r.minute, r.second);
+    places::put_triple(out, 9, r.hour, r.minute, r.second);
     spelling::put_byte(out, 15, b'\r');
 }
 
 pub fn write(r: Record, out: &mut [u8]) -> Writing
     ensures { λ w. ⌜ Wrote racal r w (now (out .entry)) (now (out .exit)) ⌝ }
 {
-    let answer = layout::admitted(r.is_good(), has_carried(r), true, 16, out.len());
+    let answer = places::admitted(r.is_good(), has_carried(r), true, 16, out.len());
     match answer {
         Writing::Written(n) => {
             store(r, out);

@@ -1,16 +1,13 @@
--- No two refusals share a number: a refusal is read back from its number.
-use mathlib.Core.Path.{_≡_, refl, sym, ap, _∙_}
-use mathlib.Core.List.{List, [], _∷_}
-use Prim.Native.Nat.{ℕ, _-_}
-use lib.ListN.{getD}
+-- No two refusals share a number, and none has 0: a refusal is read back from its number.
+use Rattle.cond.proofs.Kit.{[], _-_, _∙_, _∷_, _≡_, ap, arith, getD, List, refl, sym, ℕ}
 use Rattle.record.specs.declared.refusal.Refusal.{Refusal}
-use Rattle.record.specs.declared.refusal.Refusal.the-variants.{UnknownForm, WrongLength, WrongByte, OutOfRange, Disagreement, WrongSum, BadRecord, MissingField, NotExpressible, ShortBuffer, BadState, NotFound, Overlap}
+use Rattle.record.specs.declared.refusal.Refusal.the-variants.{UnknownForm, WrongLength, WrongByte, OutOfRange, Disagreement, WrongChecksum, BadRecord, MissingField, NotExpressible, ShortBuffer, BadState, NotFound, Overlap}
 use Rattle.record.specs.Refusal.{numberOf}
 
 -- in the order of their numbers
 abbrev refusals : List Refusal
 refusals =
-    UnknownForm ∷ WrongLength ∷ WrongByte ∷ OutOfRange ∷ Disagreement ∷ WrongSum ∷ BadRecord ∷ MissingField ∷ NotExpressible ∷ ShortBuffer ∷ BadState ∷ NotFound ∷ Overlap ∷ []
+    UnknownForm ∷ WrongLength ∷ WrongByte ∷ OutOfRange ∷ Disagreement ∷ WrongChecksum ∷ BadRecord ∷ MissingField ∷ NotExpressible ∷ ShortBuffer ∷ BadState ∷ NotFound ∷ Overlap ∷ []
 
 abbrev refusalOf : ℕ → Refusal
 refusalOf n = getD refusals (n - 1) UnknownForm
@@ -21,7 +18,7 @@ back WrongLength = refl
 back WrongByte = refl
 back OutOfRange = refl
 back Disagreement = refl
-back WrongSum = refl
+back WrongChecksum = refl
 back BadRecord = refl
 back MissingField = refl
 back NotExpressible = refl
@@ -32,3 +29,9 @@ back Overlap = refl
 
 pub numbers-apart : (x y : Refusal) → numberOf x ≡ numberOf y → x ≡ y
 numbers-apart x y h = sym (back x) ∙ ap refusalOf h ∙ back y
+
+-- 0 is no refusal
+pub never-zero : (x : Refusal) → numberOf x ≡ 0 → ⊥
+never-zero x h =
+    let e : UnknownForm ≡ x = ap refusalOf (sym h) ∙ back x in
+    omega (arith, ap numberOf e)

@@ -1,15 +1,7 @@
 -- Laws of a sign and a magnitude, and of a number of 32 bits.
-use mathlib.Core.Path.{_≡_, refl, sym, ap, _∙_}
-use mathlib.Core.Bool.{Bool, true, false, _&&_, not, false≢true}
-use Prim.Native.Nat.{ℕ, zero, suc, _≤_, zero-le}
-use native.Mathlib.Nat.{le-refl, le-suc}
-use lib.Dec.{T, eqb, leb·suc-zero}
-use lib.IntN.{ℤ, negsuc, pos, natAbs, negℤ}
-use lib.Signed.{ltZ, mag, nonNeg}
-use mir.Syntax.{w32}
-use mir.Val.{SFits, toZ, ofZ}
-use mir.Facts.{toZ-ofZ}
-use Rattle.record.specs.Sign.{isNegative, signed}
+use Rattle.cond.proofs.Kit.{_&&_, _∙_, _≡_, _≤_, ap, Bool, eqb, false, false≢true, le-leb, le-refl, le-suc, leb·suc-zero, ltZ, mag, natAbs, negsuc, negℤ}
+use Rattle.cond.proofs.Kit.{nonNeg, not, ofZ, pos, refl, SFits, suc, sym, T, toZ, toZ-ofZ, true, w32, zero, zero-le, ℕ, ℤ}
+use Rattle.record.specs.Sign.{isNegative, signed, signedNumber}
 
 -- a number is its sign and its magnitude
 pub signed-back : (z : ℤ) → signed (isNegative z) (natAbs z) ≡ z
@@ -26,6 +18,11 @@ pub negative-signed : (b : Bool) (n : ℕ) → not (b && eqb n 0) ≡ true → i
 negative-signed false n h = refl
 negative-signed true zero h = absurd (false≢true h)
 negative-signed true (suc n) h = refl
+
+-- a magnitude that 32 bits hold
+pub signed-small : (b : Bool) (n : ℕ) → n ≤ 2147483647 → signedNumber b n ≡ signed b n
+unfolding signedNumber
+signed-small b n h = simp (le-leb n 2147483647 h)
 
 -- the opposite of a number
 pub natAbs-opposite : (z : ℤ) → natAbs (negℤ z) ≡ natAbs z

@@ -16,7 +16,7 @@ numberOf refusal.OutOfRange = 4
 -- "parts disagree"
 numberOf refusal.Disagreement = 5
 -- "SPA sum or frame parity is wrong"
-numberOf refusal.WrongSum = 6
+numberOf refusal.WrongChecksum = 6
 -- "writer: the record is bad"
 numberOf refusal.BadRecord = 7
 -- "writer: a carried field is absent or of the other kind"

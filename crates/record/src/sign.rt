@@ -1,8 +1,7 @@
 // A signed number as the strings spell it: a sign and a magnitude.
 ghost use mathlib.Core.Path.{_≡_};
-ghost use Prim.Native.Nat.{_≤_};
 ghost use lib.IntN.{natAbs};
-ghost use Rattle.record.specs.Sign.{isNegative, signed};
+ghost use Rattle.record.specs.Sign.{isNegative, signedNumber};
 
 pub fn is_negative(z: i32) -> bool
     ensures { λ r. ⌜ r ≡ isNegative z ⌝ }
@@ -21,10 +20,12 @@ pub fn magnitude(z: i32) -> u32
     }
 }
 
-// Zero has no sign.
+// Zero has no sign; a magnitude that no i32 has is read as 0.
 pub fn signed_number(negative: bool, n: u32) -> i32
-    requires { ⌜ n ≤ 2147483647 ⌝ }
-    ensures { λ r. ⌜ r ≡ signed negative n ⌝ }
+    ensures { λ r. ⌜ r ≡ signedNumber negative n ⌝ }
 {
+    if 2147483647 < n {
+        return 0;
+    }
     if negative { -(n as i32) } else { n as i32 }
 }

@@ -1,12 +1,5 @@
 -- What a search says from place to place: nothing valid was found before p, so the answer is the one from p on.
-use mathlib.Core.List.{List}
-use mathlib.Core.Option.{none, some}
-use mathlib.Core.Path.{_≡_, sym, _∙_, ap}
-use Prim.Native.Nat.{ℕ, _+_, _-_, _≤_, _<_}
-use native.Mathlib.Nat.{add-zero}
-use native.Mathlib.Omega.{arith}
-use lib.ListN.{length, getD, drop, length-drop, length-take}
-use lib.Seq.{getD-drop, getD-take}
+use Rattle.cond.proofs.Kit.{_+_, _-_, _<_, _∙_, _≡_, _≤_, add-zero, ap, arith, drop, getD, getD-drop, getD-take, length, length-drop, length-take, List, none, some, sym, ℕ}
 use Rattle.record.specs.declared.Record.{Record}
 use Rattle.record.specs.declared.answer.Reading.{Reading}
 use Rattle.record.specs.declared.answer.Reading.the-variants as reading

@@ -1,7 +1,7 @@
 -- What a search answers, and the paper's number and values for each answer.
 use mathlib.Core.List.{List}
 use Prim.Native.Nat.{ℕ}
-use Rattle.choice.specs.Pick.{pick}
+use Rattle.cond.specs.Pick.{pick}
 use Rattle.record.specs.declared.Record.{Record}
 use Rattle.record.specs.declared.refusal.Refusal.the-variants as refusal
 use Rattle.record.specs.Record.{emptyRecord}

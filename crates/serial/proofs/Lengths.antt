@@ -1,21 +1,15 @@
 -- A number is that of a serial form, which has from 16 bytes to as many as a listener holds, or of none, which has the length 0.
-use mathlib.Core.List.{List, [], _∷_}
-use mathlib.Core.Bool.{Bool, true, false, _&&_, false≢true}
-use mathlib.Core.Path.{_≡_, refl, sym, _∙_}
-use Prim.Native.Nat.{ℕ, _≤_, _<_}
-use native.Mathlib.Omega.{arith}
-use borrow.Author.Tests.{eqb-true, leb-true, lt-ltb, ltb-true}
-use lib.Dec.{eqb, leb, ltb}
-use Rattle.choice.specs.Pick.{pick}
-use Rattle.choice.proofs.Tests.{both}
+use Rattle.cond.proofs.Kit.{[], _&&_, _<_, _∙_, _∷_, _≡_, _≤_, arith, Bool, eqb, eqb-true, false, false≢true, leb, leb-true, List, lt-ltb, ltb, ltb-true, refl, sym, true, ℕ}
+use Rattle.cond.specs.Pick.{pick}
+use Rattle.cond.proofs.Tests.{both}
 use Rattle.forms.specs.Form.{Form}
-use Rattle.forms.specs.Forms.{Layout, Numbered, block, isKnown, isSerial, layoutOf, serialForms, sized, unknown}
+use Rattle.forms.specs.Forms.{FormKind, Numbered, block, isKnown, isSerial, formKindOf, serialForms, sized, unknown}
 use Rattle.forms.specs.Valid.{lengthAs, lengthOf}
-use Rattle.forms.proofs.Instances.{allPass, layout-passes}
+use Rattle.forms.proofs.Instances.{allPass, variant-passes}
 use Rattle.serial.specs.Shape.{longest}
 
 -- the form has from 16 bytes to as many as a listener holds
-abbrev isBounded : Layout → Bool
+abbrev isBounded : FormKind → Bool
 isBounded (sized d) = leb 16 (d .size) && leb (d .size) longest
 isBounded (block x) = false
 isBounded unknown = true
@@ -26,13 +20,13 @@ all-bounded = refl
 
 -- a number is that of a form of such a length, or of none
 pub data Serial (n : ℕ) : Type 0 where
-  known : (d : Form) → layoutOf serialForms n ≡ sized d → 16 ≤ d .size → d .size ≤ longest → Serial n
-  other : layoutOf serialForms n ≡ unknown → Serial n
+  known : (d : Form) → formKindOf serialForms n ≡ sized d → 16 ≤ d .size → d .size ≤ longest → Serial n
+  other : formKindOf serialForms n ≡ unknown → Serial n
 
 pub serial : (n : ℕ) → Serial n
-serial n = go (layoutOf serialForms n) refl (layout-passes isBounded serialForms n all-bounded)
+serial n = go (formKindOf serialForms n) refl (variant-passes isBounded serialForms n all-bounded)
   where
-    go : (l : Layout) → layoutOf serialForms n ≡ l → isBounded l ≡ true → Serial n
+    go : (l : FormKind) → formKindOf serialForms n ≡ l → isBounded l ≡ true → Serial n
     go (sized d) e h =
         let b = both (leb 16 (d .size)) (leb (d .size) longest) h in
         known d e (leb-true 16 (d .size) (b .0)) (leb-true (d .size) longest (b .1))
@@ -46,7 +40,7 @@ module _ (n : ℕ) where
   unfolding lengthOf
   length-most = go (serial n)
     where
-      go : Serial n → lengthAs (layoutOf serialForms n) ≤ longest
+      go : Serial n → lengthAs (formKindOf serialForms n) ≤ longest
       go (known d e l m) = rw e m
       go (other e) = rw e (omega arith)
 
@@ -54,7 +48,7 @@ module _ (n : ℕ) where
   unfolding lengthOf
   length-least h = go (serial n)
     where
-      go : Serial n → 16 ≤ lengthAs (layoutOf serialForms n)
+      go : Serial n → 16 ≤ lengthAs (formKindOf serialForms n)
       go (known d e l m) = rw e l
       go (other e) = absurd (h (rw e refl))
 
@@ -62,7 +56,7 @@ module _ (n : ℕ) where
   unfolding isSerial lengthOf
   is-serial = go (serial n)
     where
-      go : Serial n → isKnown (layoutOf serialForms n) ≡ ltb 0 (lengthAs (layoutOf serialForms n))
+      go : Serial n → isKnown (formKindOf serialForms n) ≡ ltb 0 (lengthAs (formKindOf serialForms n))
       go (known d e l m) = rw e (sym (lt-ltb 0 (d .size) (omega arith)))
       go (other e) = rw e
 
@@ -81,15 +75,15 @@ unfoldable allLow : List Numbered → Bool
 allLow [] = true
 allLow (e ∷ es) = ltb (e .number) 256 && allLow es
 
-low : (es : List Numbered) (n : ℕ) → allLow es ≡ true → isKnown (layoutOf es n) ≡ true → n < 256
-unfolding allLow layoutOf
+low : (es : List Numbered) (n : ℕ) → allLow es ≡ true → isKnown (formKindOf es n) ≡ true → n < 256
+unfolding allLow formKindOf
 low [] n h k = absurd (false≢true k)
 low (e ∷ es) n h k =
     let a = both (ltb (e .number) 256) (allLow es) h in
     go (eqb n (e .number)) refl k (a .0) (low es n (a .1))
   where
-    go : (t : Bool) → eqb n (e .number) ≡ t → isKnown (pick t (e .layout) (layoutOf es n)) ≡ true → ltb (e .number) 256 ≡ true
-        → (isKnown (layoutOf es n) ≡ true → n < 256) → n < 256
+    go : (t : Bool) → eqb n (e .number) ≡ t → isKnown (pick t (e .kind) (formKindOf es n)) ≡ true → ltb (e .number) 256 ≡ true
+        → (isKnown (formKindOf es n) ≡ true → n < 256) → n < 256
     go true q k b i = rw (eqb-true n (e .number) q) (ltb-true (e .number) 256 b)
     go false q k b i = i k
 

@@ -1,13 +1,6 @@
 -- The valid strings of a serial form are as long as the form, start with its start byte and have it nowhere else, and end with its last
 -- byte. So two of them never overlap.
-use mathlib.Core.Bool.{true}
-use mathlib.Core.List.{List}
-use mathlib.Core.Option.{Option, none, some}
-use mathlib.Core.Path.{_≡_, refl, sym, _∙_, ap}
-use Prim.Native.Nat.{ℕ, _<_}
-use native.Mathlib.Nat.{add-zero}
-use native.Mathlib.Omega.{arith}
-use lib.ListN.{length, getD}
+use Rattle.cond.proofs.Kit.{_<_, _∙_, _≡_, add-zero, ap, arith, getD, length, List, none, Option, refl, some, sym, true, ℕ}
 use Rattle.record.specs.declared.Record.{Record}
 use Rattle.record.specs.declared.answer.Reading.{Reading}
 use Rattle.record.specs.declared.answer.Reading.the-variants as reading

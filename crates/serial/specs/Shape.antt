@@ -1,4 +1,4 @@
--- The shape of a serial form's strings: "n is the form's length", and the bytes that its row starts and ends with.
+-- The shape of a serial form's strings: "n is the form's length", and the bytes that its layout starts and ends with.
 use Prim.Native.Nat.{ℕ}
 use Rattle.forms.specs.Valid.{endOf, lengthOf, startOf}
 use Rattle.serial.specs.declared.Shape.{Shape}

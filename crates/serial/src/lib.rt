@@ -1,6 +1,6 @@
 // The serial strings by the numbers of their forms: an arm in each function for each line of `serialForms`, in its order.
 ghost use mathlib.Core.Path.{_≡_};
-ghost use Rattle.forms.specs.Forms.{WroteAs, layoutOf, readAs, serialForms};
+ghost use Rattle.forms.specs.Forms.{WroteAs, formKindOf, readAs, serialForms};
 ghost use Rattle.forms.specs.Valid.{lengthOf};
 ghost use Rattle.serial.specs.Shape.{shapeOf, shaped};
 use record::Record;
@@ -47,7 +47,7 @@ pub fn length_of(form: u32) -> usize
 }
 
 pub fn read(form: u32, s: &[u8]) -> Reading
-    ensures { λ r. ⌜ r ≡ readAs (layoutOf serialForms form) (now (s .entry)) ⌝ }
+    ensures { λ r. ⌜ r ≡ readAs (formKindOf serialForms form) (now (s .entry)) ⌝ }
 {
     match form {
         1 => standard::read(s),
@@ -62,7 +62,7 @@ pub fn read(form: u32, s: &[u8]) -> Reading
 }
 
 pub fn write(form: u32, r: Record, out: &mut [u8]) -> Writing
-    ensures { λ w. ⌜ WroteAs (layoutOf serialForms form) r w (now (out .entry)) (now (out .exit)) ⌝ }
+    ensures { λ w. ⌜ WroteAs (formKindOf serialForms form) r w (now (out .entry)) (now (out .exit)) ⌝ }
 {
     match form {
         1 => standard::write(r, out),

@@ -1,1 +1,1 @@
-pub mod Summed
+pub mod Checked

@@ -1,6 +1,6 @@
 // The ABB SPA string, form 4: `>900WD:yy-mm-dd hh.mm;ss.fff:cc<CR>`.
+mod checksum;
 mod reader;
-mod sum;
 mod writer;
 
 pub use reader::read;

@@ -1,11 +1,11 @@
 // Reading a string.
 ghost use mathlib.Core.Path.{_≡_};
-ghost use lib.ListN.{length, take};
+ghost use lib.ListN.{take};
 ghost use Rattle.forms.specs.Form.{carries, readBy, valuesBy};
 ghost use Rattle.forms.specs.Places.{shape};
-ghost use Rattle.forms.specs.Serial.{spa, spaRow};
-ghost use Rattle.forms.specs.Spelled.{recordFrom};
-use crate::sum::sum_holds;
+ghost use Rattle.forms.specs.Serial.{spa, spaLayout};
+ghost use Rattle.forms.specs.Decode.{decode};
+use crate::checksum::checksum_holds;
 use record::Date;
 use record::Fraction;
 use record::Record;
@@ -14,45 +14,42 @@ use record::refusal::Refusal;
 
 // `>900WD:yy-mm-dd hh.mm;ss`
 fn has_time(s: &[u8]) -> bool
-    requires { ⌜ length (now s) ≡ 32 ⌝ }
-    ensures { λ r. ⌜ r ≡ shape (take 12 spaRow) 0 (now (s .entry)) ⌝ }
+    ensures { λ r. ⌜ r ≡ shape (take 12 spaLayout) 0 (now (s .entry)) ⌝ }
 {
-    layout::text_at(s, 0, b">900WD:")
-        & layout::pairs_at(s, 7, b'-')
-        & layout::is_at(s, 15, b' ')
-        & layout::digits_at(s, 16, 2)
-        & layout::is_at(s, 18, b'.')
-        & layout::digits_at(s, 19, 2)
-        & layout::is_at(s, 21, b';')
-        & layout::digits_at(s, 22, 2)
+    places::text_at(s, 0, b">900WD:")
+        & places::pairs_at(s, 7, b'-')
+        & places::is_at(s, 15, b' ')
+        & places::digits_at(s, 16, 2)
+        & places::is_at(s, 18, b'.')
+        & places::digits_at(s, 19, 2)
+        & places::is_at(s, 21, b';')
+        & places::digits_at(s, 22, 2)
 }
 
 fn has_shape(s: &[u8]) -> bool
-    requires { ⌜ length (now s) ≡ 32 ⌝ }
-    ensures { λ r. ⌜ r ≡ shape spaRow 0 (now (s .entry)) ⌝ }
+    ensures { λ r. ⌜ r ≡ shape spaLayout 0 (now (s .entry)) ⌝ }
 {
     has_time(s)
-        & layout::is_at(s, 24, b'.')
-        & layout::digits_at(s, 25, 3)
-        & layout::is_at(s, 28, b':')
-        & spelling::are_hex(&s[29..31])
-        & layout::is_at(s, 31, b'\r')
+        & places::is_at(s, 24, b'.')
+        & places::digits_at(s, 25, 3)
+        & places::is_at(s, 28, b':')
+        & places::hex_at(s, 29, 2)
+        & places::is_at(s, 31, b'\r')
 }
 
 fn decode(s: &[u8]) -> Record
-    requires { ⌜ length (now s) ≡ 32 ⌝ }
-    ensures { λ r. ⌜ r ≡ recordFrom (carries spa) (valuesBy spa (now (s .entry))) ⌝ }
+    ensures { λ r. ⌜ r ≡ decode (carries spa) (valuesBy spa (now (s .entry))) ⌝ }
 {
     Record {
-        hour: layout::number_at(s, 16, 2),
-        minute: layout::number_at(s, 19, 2),
-        second: layout::number_at(s, 22, 2),
+        hour: places::number_at(s, 16, 2),
+        minute: places::number_at(s, 19, 2),
+        second: places::number_at(s, 22, 2),
         date: Date::Full {
-            year: layout::number_at(s, 7, 2),
-            month: layout::number_at(s, 10, 2),
-            day: layout::number_at(s, 13, 2),
+            year: places::number_at(s, 7, 2),
+            month: places::number_at(s, 10, 2),
+            day: places::number_at(s, 13, 2),
         },
-        fraction: Fraction::Thousandths(layout::number_at(s, 25, 3)),
+        fraction: Fraction::Thousandths(places::number_at(s, 25, 3)),
         ..Record::empty()
     }
 }
@@ -70,8 +67,8 @@ pub fn read(s: &[u8]) -> Reading
     if !has_shape(s) {
         return Reading::Refused(Refusal::WrongByte);
     }
-    if !sum_holds(s) {
-        return Reading::Refused(Refusal::WrongSum);
+    if !checksum_holds(s) {
+        return Reading::Refused(Refusal::WrongChecksum);
     }
-    layout::validate(decode(s))
+    places::validate(decode(s))
 }

@@ -1,22 +1,21 @@
 // Writing a string.
 ghost use mathlib.Core.Path.{_≡_};
 ghost use mathlib.Core.List.{_++_};
-ghost use Prim.Native.Nat.{_≤_};
 ghost use lib.ListN.{length, take, drop};
 ghost use Rattle.forms.specs.Form.{Wrote, bytesBy, carries};
-ghost use Rattle.forms.specs.Needs.{hasAll};
-ghost use Rattle.forms.specs.Serial.{spa, spaRow};
-ghost use Rattle.forms.specs.Told.{told};
-ghost use Rattle.layout.specs.Admitted.{Storable};
-ghost use Rattle.layout.specs.Stores.{stores};
+ghost use Rattle.forms.specs.Required.{hasCarried};
+ghost use Rattle.forms.specs.Serial.{spa, spaLayout};
+ghost use Rattle.forms.specs.Encode.{encode};
+ghost use Rattle.places.specs.Admitted.{Storable};
+ghost use Rattle.places.specs.Stores.{stores};
 ghost use Rattle.spa.specs.Stored.{endStored};
-use crate::sum::sum_of;
+use crate::checksum::checksum_of;
 use record::Record;
 use record::answer::Writing;
 
 // Ten-millionths do not serve: a fraction is never converted.
 fn has_carried(r: Record) -> bool
-    ensures { λ b. ⌜ b ≡ hasAll (carries spa) r ⌝ }
+    ensures { λ b. ⌜ b ≡ hasCarried (carries spa) r ⌝ }
 {
     let date = r.date;
     let fraction = r.fraction;
@@ -25,12 +24,11 @@ fn has_carried(r: Record) -> bool
 
 // `>900WD:yy-mm-dd `
 fn store_date(r: Record, out: &mut [u8])
-    requires { ⌜ 32 ≤ length (now out) ⌝ }
-    ensures { λ _. ⌜ now (out .exit) ≡ stores (take 7 spaRow) 0 (told r) (now (out .entry)) ⌝ }
+    ensures { λ _. ⌜ now (out .exit) ≡ stores (take 7 spaLayout) 0 (encode r) (now (out .entry)) ⌝ }
 {
     let date = r.date;
     spelling::put_bytes(out, 0, b">900WD:");
-    layout::put_pairs(
+    places::put_pairs(
         out,
         7,
         b'-',
@@ -43,8 +41,7 @@ fn store_date(r: Record, out: &mut [u8])
 
 // `hh.mm;ss.fff:`
 fn store_time(r: Record, out: &mut [u8])
-    requires { ⌜ 32 ≤ length (now out) ⌝ }
-    ensures { λ _. ⌜ now (out .exit) ≡ stores (drop 7 (take 15 spaRow)) 16 (told r) (now (out .entry)) ⌝ }
+    ensures { λ _. ⌜ now (out .exit) ≡ stores (drop 7 (take 15 spaLayout)) 16 (encode r) (now (out .entry)) ⌝ }
 {
     let fraction = r.fraction;
     spelling::put_digits(out, 16, 2, r.hour);
@@ -59,8 +56,7 @@ fn store_time(r: Record, out: &mut [u8])
 
 // All that the sum is taken over.
 fn store_front(r: Record, out: &mut [u8])
-    requires { ⌜ 32 ≤ length (now out) ⌝ }
-    ensures { λ _. ⌜ now (out .exit) ≡ stores (take 15 spaRow) 0 (told r) (now (out .entry)) ⌝ }
+    ensures { λ _. ⌜ now (out .exit) ≡ stores (take 15 spaLayout) 0 (encode r) (now (out .entry)) ⌝ }
 {
     store_date(r, out);
     store_time(r, out);
@@ -68,17 +64,16 @@ fn store_front(r: Record, out: &mut [u8])
 
 // `cc<CR>`, behind the bytes that stand there
 fn store_end(out: &mut [u8])
-    requires { ⌜ 32 ≤ length (now out) ⌝ }
     ensures { λ _. ⌜ now (out .exit) ≡ endStored (now (out .entry)) ⌝ }
 {
-    let sum = sum_of(out);
-    spelling::put_hex(out, 29, 2, sum);
+    let checksum = checksum_of(out);
+    spelling::put_hex(out, 29, 2, checksum);
     spelling::put_byte(out, 31, b'\r');
 }
 
 fn store(r: Record, out: &mut [u8])
     requires { ⌜ Storable spa r (length (now out)) ⌝ }
-    ensures { λ _. ⌜ now (out .exit) ≡ bytesBy spa (told r) ++ drop 32 (now (out .entry)) ⌝ }
+    ensures { λ _. ⌜ now (out .exit) ≡ bytesBy spa (encode r) ++ drop 32 (now (out .entry)) ⌝ }
 {
     store_front(r, out);
     store_end(out);
@@ -87,7 +82,7 @@ fn store(r: Record, out: &mut [u8])
 pub fn write(r: Record, out: &mut [u8]) -> Writing
     ensures { λ w. ⌜ Wrote spa r w (now (out .entry)) (now (out .exit)) ⌝ }
 {
-    let answer = layout::admitted(r.is_good(), has_carried(r), true, 32, out.len());
+    let answer = places::admitted(r.is_good(), has_carried(r), true, 32, out.len());
     match answer {
         Writing::Written(n) => {
             store(r, out);

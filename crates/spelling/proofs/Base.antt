@@ -1,17 +1,9 @@
 -- Digits of a base spell each number below their power of the base, and only once: one law for decimal and hexadecimal.
-use mathlib.Core.Path.{_≡_, refl, sym, _∙_, ap, subst}
-use mathlib.Core.Bool.{Bool, true, false, _&&_}
-use mathlib.Core.List.{List, [], _∷_}
-use mathlib.Core.Logic.{⊎-elim}
-use Prim.Native.Nat.{ℕ, zero, suc, _+_, _-_, _*_, _/_, _%_, _^_, _≤_, _<_}
-use native.Mathlib.Nat.{mod-lt, mod-eq-of-lt, mul-comm, mul-pos, pow-zero, pow-suc}
-use native.Mathlib.Omega.{arith}
-use borrow.Author.Tests.{le-leb, lt-leb, lt-ltb, le-ltb, leb-true, leb-false, ltb-true, ltb-false}
-use lib.Arith.{mod-mul, digits-div, digits-mod, digits-lt}
-use lib.Dec.{leb, ltb, lit<}
-use lib.ListN.{length}
-use Rattle.choice.specs.Pick.{pick}
-use Rattle.choice.proofs.Tests.{both, either}
+use Rattle.cond.proofs.Kit.{[], _%_, _&&_, _*_, _+_, _-_, _/_, _<_, _^_, _∙_, _∷_, _≡_, _≤_, ap, arith, Bool, digits-div, digits-lt, digits-mod, false}
+use Rattle.cond.proofs.Kit.{le-leb, le-ltb, leb, leb-false, leb-true, length, List, lit<, lt-leb, lt-ltb, ltb, ltb-false, ltb-true, mod-eq-of-lt, mod-lt}
+use Rattle.cond.proofs.Kit.{mod-mul, mul-comm, mul-pos, pow-suc, pow-zero, refl, subst, suc, sym, true, zero, ℕ, ⊎-elim}
+use Rattle.cond.specs.Pick.{pick}
+use Rattle.cond.proofs.Tests.{both, either}
 use Rattle.spelling.specs.Bytes.{allAre, digitOf, digitValue, hexOf, hexValue, isDigit, isHex, numberIn, spelledIn}
 
 -- each value below the base has its digit, and each digit its value

@@ -1,15 +1,8 @@
 -- Digits with spaces for leading zeros spell each number that the digits do, and only once.
-use mathlib.Core.Path.{_≡_, refl, _∙_, ap}
-use mathlib.Core.Bool.{Bool, true, false, _&&_, false≢true}
-use mathlib.Core.List.{List, [], _∷_}
-use Prim.Native.Nat.{ℕ, suc, _+_, _-_, _*_, _/_, _%_, _^_, _≤_, _<_}
-use native.Mathlib.Nat.{mod-eq-of-lt, div-eq-of-lt, pow-suc}
-use native.Mathlib.Omega.{arith}
-use borrow.Author.Tests.{ne-eqb, eqb-true, eqb-false, le-leb, leb-true}
-use lib.Dec.{eqb, leb}
-use lib.ListN.{length}
-use Rattle.choice.specs.Pick.{pick}
-use Rattle.choice.proofs.Tests.{both}
+use Rattle.cond.proofs.Kit.{[], _%_, _&&_, _*_, _+_, _-_, _/_, _<_, _^_, _∙_, _∷_, _≡_, _≤_, ap, arith, Bool, div-eq-of-lt, eqb, eqb-false, eqb-true, false}
+use Rattle.cond.proofs.Kit.{false≢true, le-leb, leb, leb-true, length, List, mod-eq-of-lt, ne-eqb, pow-suc, refl, suc, true, ℕ}
+use Rattle.cond.specs.Pick.{pick}
+use Rattle.cond.proofs.Tests.{both}
 use Rattle.spelling.specs.Bytes.{allAre, areDigits, arePadded, blanked, decimal, digitOf, isDigit, number, numberIn, spelledIn}
 use Rattle.spelling.proofs.Base.{decimals, digit-range, spelled-length, spelled-number, number-lt}
 

@@ -1,16 +1,8 @@
 -- One turn of a loop that reads bytes: what is said of the bytes from place i on is said of byte i and of those behind it.
-use mathlib.Core.Path.{_≡_, refl, sym, _∙_, ap}
-use mathlib.Core.Bool.{Bool, true, false, _&&_, and-false}
-use mathlib.Core.List.{List, [], _∷_, _++_}
-use Prim.Native.Nat.{ℕ, suc, _+_, _-_, _*_, _^_, _≤_, _<_}
-use native.Mathlib.Nat.{add-assoc, add-mul, mul-assoc, mul-le-mul-left, mul-le-mul-right, mul-one, pow-le-pow-right, pow-suc, pow-zero}
-use native.Mathlib.Numerals.{add-one}
-use native.Mathlib.Omega.{arith}
-use borrow.Author.Tests.{eq-eqb, ne-eqb}
-use lib.Dec.{eqb}
-use lib.ListN.{length, getD, take, drop, drop-of-length-le, length-append, length-drop}
-use lib.Seq.{drop-cons, take-all, take-suc}
-use Rattle.choice.specs.Pick.{pick}
+use Rattle.cond.proofs.Kit.{[], _&&_, _*_, _++_, _+_, _-_, _<_, _^_, _∙_, _∷_, _≡_, _≤_, add-assoc, add-mul, add-one, and-false, ap, arith, Bool, drop}
+use Rattle.cond.proofs.Kit.{drop-cons, drop-of-length-le, eq-eqb, eqb, false, getD, length, length-append, length-drop, List, mul-assoc, mul-le-mul-left}
+use Rattle.cond.proofs.Kit.{mul-le-mul-right, mul-one, ne-eqb, pow-le-pow-right, pow-suc, pow-zero, refl, suc, sym, take, take-all, take-suc, true, ℕ}
+use Rattle.cond.specs.Pick.{pick}
 use Rattle.spelling.specs.Bytes.{allAre, areDigits, arePadded, isDigit, isWithin, numberIn, sameBytes}
 
 module _ {A : Type 0} (f : List ℕ → A) (s : List ℕ) (i : ℕ) where

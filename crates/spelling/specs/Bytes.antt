@@ -8,7 +8,7 @@ use Prim.Native.String.{String}
 use lib.Bits.{bitXor}
 use lib.Dec.{leb, ltb, eqb}
 use lib.ListN.{length, take, drop}
-use Rattle.choice.specs.Pick.{oneIf, pick}
+use Rattle.cond.specs.Pick.{oneIf, pick}
 
 -- the bytes of a quoted text
 abbrev pub text : String → List ℕ
@@ -182,7 +182,7 @@ wordPlace [] x = 0
 wordPlace (y ∷ ys) x = pick (sameBytes x y) 0 (suc (wordPlace ys x))
 
 -- each letter a word
-abbrev pub letters : List ℕ → List (List ℕ)
+unfoldable pub letters : List ℕ → List (List ℕ)
 letters [] = []
 letters (b ∷ bs) = (b ∷ []) ∷ letters bs
 

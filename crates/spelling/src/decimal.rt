@@ -2,8 +2,9 @@
 ghost use mathlib.Core.Path.{_≡_};
 ghost use Prim.Native.Nat.{_+_, _*_, _^_, _≤_};
 ghost use lib.ListN.{length};
-ghost use lib.Seq.{sets};
 ghost use Rattle.spelling.specs.Bytes.{allAre, areDigits, decimal, digitValue, isDigit, isWithin, number};
+ghost use Rattle.spelling.specs.Stored.{stored, upTo};
+use crate::store::has_room;
 
 // Every byte lies between two bytes.
 pub fn all_within(s: &[u8], low: u8, high: u8) -> bool
@@ -41,11 +42,13 @@ pub fn digit_value(b: u8) -> u32
     if b < 48 { 0 } else { (b - 48) as u32 }
 }
 
-// The number that up to seven bytes spell, with a bound that holds for any bytes.
+// The number that up to seven bytes spell, 0 for more, with a bound that holds for any bytes.
 pub fn number(s: &[u8]) -> u32
-    requires { ⌜ length (now s) ≤ 7 ⌝ }
-    ensures { λ r. ⌜ (r ≡ number (now (s .entry))) × (r + 23 ≤ 23 * 10 ^ length (now (s .entry))) ⌝ }
+    ensures { λ r. ⌜ (r ≡ upTo 7 (now (s .entry)) (number (now (s .entry)))) × (r + 23 ≤ 23 * 10 ^ length (now (s .entry))) ⌝ }
 {
+    if 7 < s.len() {
+        return 0;
+    }
     let mut n: u32 = 0;
     let mut i = 0;
     while i < s.len() {
@@ -57,17 +60,18 @@ pub fn number(s: &[u8]) -> u32
 
 // Puts the last w digits of n at a place of out.
 pub fn put_digits(out: &mut [u8], at: usize, w: usize, n: u32)
-    requires { ⌜ at + w ≤ length (now out) ⌝ }
-    ensures { λ _. ⌜ now (out .exit) ≡ sets (now (out .entry)) at (decimal w n) ⌝ }
+    ensures { λ _. ⌜ now (out .exit) ≡ stored (now (out .entry)) at (decimal w n) ⌝ }
 {
     put_count(out, at, w, n as u64);
 }
 
 // The same for a number of 64 bits.
 pub fn put_count(out: &mut [u8], at: usize, w: usize, n: u64)
-    requires { ⌜ at + w ≤ length (now out) ⌝ }
-    ensures { λ _. ⌜ now (out .exit) ≡ sets (now (out .entry)) at (decimal w n) ⌝ }
+    ensures { λ _. ⌜ now (out .exit) ≡ stored (now (out .entry)) at (decimal w n) ⌝ }
 {
+    if !has_room(out.len(), at, w) {
+        return;
+    }
     let mut rest = n;
     let mut i = w;
     while 0 < i {

@@ -1,17 +1,14 @@
 -- A good record has a letter for each field of a Standard string, but for change and leap both.
-use mathlib.Core.Path.{_≡_, refl, sym, _∙_}
-use mathlib.Core.Bool.{Bool, true, false, not, _&&_, and-true}
-use Prim.Native.Nat.{ℕ, _+_, _*_}
-use lib.Dec.{ltb}
-use Rattle.choice.specs.Pick.{oneIf}
+use Rattle.cond.proofs.Kit.{_&&_, _*_, _+_, _≡_, and-true, Bool, false, ltb, not, refl, true}
+use Rattle.cond.specs.Pick.{oneIf}
 use Rattle.record.specs.declared.Record.{Record}
-use Rattle.record.specs.Record.{isGood, isYes, zoneAgrees}
+use Rattle.record.specs.Record.{isGood, isYes}
+use Rattle.spelling.specs.Bytes.{letters}
 use Rattle.forms.specs.Form.{isExpressible}
-use Rattle.forms.specs.Places.{allWorded, has}
-use Rattle.forms.specs.Serial.{standard, standardRow}
-use Rattle.forms.specs.Told.{told}
+use Rattle.forms.specs.Places.{hasWords, has}
+use Rattle.forms.specs.Serial.{standardLayout}
+use Rattle.forms.specs.Encode.{encode}
 use Rattle.forms.proofs.Bounds.{good}
-use Rattle.layout.specs.Admitted.{Storable}
 use Rattle.standard.specs.Letters.{noticeAgrees}
 
 one-below : (a : Bool) → ltb (oneIf a) 2 ≡ true
@@ -29,16 +26,7 @@ letters-there : (s f u m c l : Bool) → not (u && m) ≡ true
     → (ltb (oneIf s) 2 && (ltb (oneIf f) 2 && (ltb (oneIf u * 2 + oneIf m) 3 && (ltb (oneIf c * 2 + oneIf l) 3 && true)))) ≡ not (c && l)
 letters-there s f u m c l z = simp (one-below s, one-below f, two-below u m, z, two-below c l, and-true)
 
-pub worded-of : (r : Record) → isGood r ≡ true → isExpressible standardRow (told r) ≡ noticeAgrees r
-unfolding allWorded has isExpressible noticeAgrees
-worded-of r g =
+pub has-words-of : (r : Record) → isGood r ≡ true → isExpressible standardLayout (encode r) ≡ noticeAgrees r
+unfolding hasWords has isExpressible letters noticeAgrees
+has-words-of r g =
     letters-there (isYes (r .sync)) (isYes (r .fix)) (isYes (r .utc)) (isYes (r .summer)) (isYes (r .change)) (isYes (r .leap)) (good r g .zoned)
-
--- so that neither of the shared letters has two fields to tell
-
-pub stored-zone : (r : Record) (n : ℕ) → Storable standard r n → zoneAgrees r ≡ true
-unfolding zoneAgrees
-stored-zone r n s = good r (s .good) .zoned
-
-pub stored-notice : (r : Record) (n : ℕ) → Storable standard r n → noticeAgrees r ≡ true
-stored-notice r n s = sym (worded-of r (s .good)) ∙ s .expressible

@@ -1,4 +1,4 @@
--- Two yes or no fields in one letter.
+-- Inner: two yes or no fields in one letter.
 use mathlib.Core.Bool.{Bool, not, _&&_}
 use Rattle.record.specs.declared.Record.{Record}
 use Rattle.record.specs.Record.{isYes}

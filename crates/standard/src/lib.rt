@@ -3,16 +3,15 @@ ghost use mathlib.Core.Path.{_≡_};
 ghost use mathlib.Core.Bool.{true};
 ghost use Prim.Native.Nat.{_≤_};
 ghost use lib.ListN.{length, take, drop};
-ghost use Rattle.record.specs.Record.{zoneAgrees};
 ghost use Rattle.forms.specs.Form.{Wrote, carries, readBy, valuesBy};
-ghost use Rattle.forms.specs.Needs.{hasAll};
+ghost use Rattle.forms.specs.Required.{hasCarried};
 ghost use Rattle.forms.specs.Places.{shape};
-ghost use Rattle.forms.specs.Serial.{standard, standardRow};
-ghost use Rattle.forms.specs.Spelled.{recordFrom};
-ghost use Rattle.forms.specs.Told.{told};
-ghost use Rattle.layout.specs.Admitted.{Storable};
-ghost use Rattle.layout.specs.Stores.{stores};
-ghost use Rattle.layout.specs.Weekday.{exists};
+ghost use Rattle.forms.specs.Serial.{standard, standardLayout};
+ghost use Rattle.forms.specs.Decode.{decode};
+ghost use Rattle.forms.specs.Encode.{encode};
+ghost use Rattle.places.specs.Admitted.{Storable};
+ghost use Rattle.places.specs.Stores.{stores};
+ghost use Rattle.places.specs.Weekday.{encodeWeekday};
 ghost use Rattle.standard.specs.Letters.{noticeAgrees};
 use record::Date;
 use record::Record;
@@ -22,50 +21,48 @@ use record::refusal::Refusal;
 
 // `uvxy<ETX>`
 fn has_letters(s: &[u8]) -> bool
-    requires { ⌜ length (now s) ≡ 32 ⌝ }
-    ensures { λ r. ⌜ r ≡ shape (drop 15 standardRow) 27 (now (s .entry)) ⌝ }
+    ensures { λ r. ⌜ r ≡ shape (drop 15 standardLayout) 27 (now (s .entry)) ⌝ }
 {
-    layout::letter_at(s, 27, b'#', b' ')
-        & layout::letter_at(s, 28, b'*', b' ')
-        & layout::letter_of_three_at(s, 29, b' ', b'S', b'U')
-        & layout::letter_of_three_at(s, 30, b' ', b'A', b'!')
-        & layout::is_at(s, 31, 3)
+    places::letter_at(s, 27, b"# ")
+        & places::letter_at(s, 28, b"* ")
+        & places::letter_at(s, 29, b" SU")
+        & places::letter_at(s, 30, b" A!")
+        & places::is_at(s, 31, 3)
 }
 
 fn has_shape(s: &[u8]) -> bool
-    requires { ⌜ length (now s) ≡ 32 ⌝ }
-    ensures { λ r. ⌜ r ≡ shape standardRow 0 (now (s .entry)) ⌝ }
+    ensures { λ r. ⌜ r ≡ shape standardLayout 0 (now (s .entry)) ⌝ }
 {
-    layout::text_at(s, 0, b"\x02D:")
-        & layout::pairs_at(s, 3, b'.')
-        & layout::text_at(s, 11, b";T:")
-        & layout::digits_at(s, 14, 1)
-        & layout::text_at(s, 15, b";U:")
-        & layout::pairs_at(s, 18, b'.')
-        & layout::is_at(s, 26, b';')
+    places::text_at(s, 0, b"\x02D:")
+        & places::pairs_at(s, 3, b'.')
+        & places::text_at(s, 11, b";T:")
+        & places::digits_at(s, 14, 1)
+        & places::text_at(s, 15, b";U:")
+        & places::pairs_at(s, 18, b'.')
+        & places::is_at(s, 26, b';')
         & has_letters(s)
 }
 
 // `U` is utc and `S` is summer; `!` announces a change and `A` a leap second, which is no lsp.
 fn decode(s: &[u8]) -> Record
     requires { ⌜ length (now s) ≡ 32 ⌝ }
-    ensures { λ r. ⌜ r ≡ recordFrom (carries standard) (valuesBy standard (now (s .entry))) ⌝ }
+    ensures { λ r. ⌜ r ≡ decode (carries standard) (valuesBy standard (now (s .entry))) ⌝ }
 {
     Record {
-        hour: layout::number_at(s, 18, 2),
-        minute: layout::number_at(s, 21, 2),
-        second: layout::number_at(s, 24, 2),
+        hour: places::number_at(s, 18, 2),
+        minute: places::number_at(s, 21, 2),
+        second: places::number_at(s, 24, 2),
         date: Date::Full {
-            year: layout::number_at(s, 9, 2),
-            month: layout::number_at(s, 6, 2),
-            day: layout::number_at(s, 3, 2),
+            year: places::number_at(s, 9, 2),
+            month: places::number_at(s, 6, 2),
+            day: places::number_at(s, 3, 2),
         },
-        sync: layout::flag_at(s, 27, b'#'),
-        fix: layout::flag_at(s, 28, b'*'),
-        utc: layout::yes_at(s, 29, b'U'),
-        summer: layout::yes_at(s, 29, b'S'),
-        change: layout::yes_at(s, 30, b'!'),
-        leap: layout::yes_at(s, 30, b'A'),
+        sync: places::flag_at(s, 27, b'#'),
+        fix: places::flag_at(s, 28, b'*'),
+        utc: places::yes_at(s, 29, b'U'),
+        summer: places::yes_at(s, 29, b'S'),
+        change: places::yes_at(s, 30, b'!'),
+        leap: places::yes_at(s, 30, b'A'),
         ..Record::empty()
     }
 }
@@ -83,11 +80,11 @@ pub fn read(s: &[u8]) -> Reading
     if !has_shape(s) {
         return Reading::Refused(Refusal::WrongByte);
     }
-    layout::validate_on(decode(s), layout::number_at(s, 14, 1))
+    places::validate_on(decode(s), places::number_at(s, 14, 1))
 }
 
 fn has_carried(r: Record) -> bool
-    ensures { λ b. ⌜ b ≡ hasAll (carries standard) r ⌝ }
+    ensures { λ b. ⌜ b ≡ hasCarried (carries standard) r ⌝ }
 {
     let date = r.date;
     let sync = r.sync;
@@ -115,13 +112,13 @@ fn notice_agrees(r: Record) -> bool
 }
 
 // `<STX>D:dd.mm.yy;T:w;U:`
-fn store_date(r: Record, out: &mut [u8])
-    requires { ⌜ (32 ≤ length (now out)) × (exists (r .date) ≡ true) ⌝ }
-    ensures { λ _. ⌜ now (out .exit) ≡ stores (take 9 standardRow) 0 (told r) (now (out .entry)) ⌝ }
+fn store_date(r: Record, weekday: u32, out: &mut [u8])
+    requires { ⌜ weekday ≡ encodeWeekday (r .date) ⌝ }
+    ensures { λ _. ⌜ now (out .exit) ≡ stores (take 9 standardLayout) 0 (encode r) (now (out .entry)) ⌝ }
 {
     let date = r.date;
     spelling::put_bytes(out, 0, b"\x02D:");
-    layout::put_pairs(
+    places::put_pairs(
         out,
         3,
         b'.',
@@ -130,42 +127,49 @@ fn store_date(r: Record, out: &mut [u8])
         fields::year_of(date),
     );
     spelling::put_bytes(out, 11, b";T:");
-    spelling::put_digits(out, 14, 1, layout::weekday_of(date));
+    spelling::put_digits(out, 14, 1, weekday);
     spelling::put_bytes(out, 15, b";U:");
 }
 
-// `uvxy<ETX>`
-fn store_letters(r: Record, out: &mut [u8])
-    requires { ⌜ (32 ≤ length (now out)) × (zoneAgrees r ≡ true) × (noticeAgrees r ≡ true) ⌝ }
-    ensures { λ _. ⌜ now (out .exit) ≡ stores (drop 15 standardRow) 27 (told r) (now (out .entry)) ⌝ }
+// `uv`
+fn store_state(r: Record, out: &mut [u8])
+    ensures { λ _. ⌜ now (out .exit) ≡ stores (take 2 (drop 15 standardLayout)) 27 (encode r) (now (out .entry)) ⌝ }
 {
     let sync = r.sync;
     let fix = r.fix;
+    places::put_flag(out, 27, b"# ", sync);
+    places::put_flag(out, 28, b"* ", fix);
+}
+
+// `xy<ETX>`
+fn store_zone(r: Record, out: &mut [u8])
+    ensures { λ _. ⌜ now (out .exit) ≡ stores (drop 17 standardLayout) 29 (encode r) (now (out .entry)) ⌝ }
+{
     let utc = r.utc;
     let summer = r.summer;
     let change = r.change;
     let leap = r.leap;
-    layout::put_flag(out, 27, b'#', b' ', sync);
-    layout::put_flag(out, 28, b'*', b' ', fix);
-    layout::put_shared(out, 29, b' ', b'S', b'U', utc, summer);
-    layout::put_shared(out, 30, b' ', b'A', b'!', change, leap);
+    places::put_shared(out, 29, b" SU", utc, summer);
+    places::put_shared(out, 30, b" A!", change, leap);
     spelling::put_byte(out, 31, 3);
 }
 
 fn store(r: Record, out: &mut [u8])
     requires { ⌜ Storable standard r (length (now out)) ⌝ }
-    ensures { λ _. ⌜ now (out .exit) ≡ stores standardRow 0 (told r) (now (out .entry)) ⌝ }
+    ensures { λ _. ⌜ now (out .exit) ≡ stores standardLayout 0 (encode r) (now (out .entry)) ⌝ }
 {
-    store_date(r, out);
-    layout::put_pairs(out, 18, b'.', r.hour, r.minute, r.second);
+    let date = r.date;
+    store_date(r, places::weekday_of(date), out);
+    places::put_pairs(out, 18, b'.', r.hour, r.minute, r.second);
     spelling::put_byte(out, 26, b';');
-    store_letters(r, out);
+    store_state(r, out);
+    store_zone(r, out);
 }
 
 pub fn write(r: Record, out: &mut [u8]) -> Writing
     ensures { λ w. ⌜ Wrote standard r w (now (out .entry)) (now (out .exit)) ⌝ }
 {
-    let answer = layout::admitted(r.is_good(), has_carried(r), notice_agrees(r), 32, out.len());
+    let answer = places::admitted(r.is_good(), has_carried(r), notice_agrees(r), 32, out.len());
     match answer {
         Writing::Written(n) => {
             store(r, out);

@@ -1,12 +1,5 @@
 -- Valid strings of a form that lie in one list end n or more bytes apart.
-use mathlib.Core.List.{List}
-use mathlib.Core.Option.{Option, some}
-use mathlib.Core.Path.{_≡_, sym, _∙_}
-use Prim.Native.Nat.{ℕ, _+_, _-_, _<_}
-use native.Mathlib.Nat.{add-assoc}
-use native.Mathlib.Omega.{arith}
-use lib.ListN.{drop}
-use lib.Seq.{getD-drop, getD-take}
+use Rattle.cond.proofs.Kit.{_+_, _-_, _<_, _∙_, _≡_, add-assoc, arith, drop, getD-drop, getD-take, List, Option, some, sym, ℕ}
 use Rattle.stream.specs.Heard.{heardAt}
 use Rattle.stream.specs.Strings.{Strings}
 use Rattle.stream.specs.Window.{window}

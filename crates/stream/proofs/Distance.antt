@@ -1,13 +1,6 @@
 -- Refusal 13 never occurs: the distance counts the bytes since the last record, and a valid string ends n or more bytes behind it.
-use mathlib.Core.Bool.{Bool, true, false}
-use mathlib.Core.List.{List, [], _∷_, _++_}
-use mathlib.Core.Option.{Option, none, some}
-use mathlib.Core.Path.{_≡_, refl, sym, ap, _∙_}
-use Prim.Native.Nat.{ℕ, zero, suc, _+_, _-_, _≤_, _<_, min}
-use native.Mathlib.Omega.{arith}
-use borrow.Author.Tests.{le-ltb, ltb-false, ltb-true}
-use lib.Dec.{ltb}
-use lib.ListN.{length, length-append}
+use Rattle.cond.proofs.Kit.{[], _++_, _+_, _-_, _<_, _∙_, _∷_, _≡_, _≤_, ap, arith, Bool, false, le-ltb, length, length-append, List, ltb, ltb-false}
+use Rattle.cond.proofs.Kit.{ltb-true, min, none, Option, refl, some, suc, sym, true, zero, ℕ}
 use Rattle.stream.specs.Answer.{Answer, handed, handedOut, nothing, refused}
 use Rattle.stream.specs.Distance.{Fits, Since, State, distanceAfter, fresh, stepAnswer, stepNext, unlessOverlap}
 use Rattle.stream.specs.Heard.{heardAll, heardAt}
@@ -116,6 +109,10 @@ module _ {R : Type 0} (m n : ℕ) (valid : List ℕ → Option R) where
     -- after any bytes
     after : (s : List ℕ) → Reached s (stateAfter (stepNext m n valid) (fresh n) s)
     after s = reached (stepNext m n valid) Reached reached-next [] (fresh n) s reached-fresh
+
+    -- "The kept bytes are always the last n-1 fed": here the last m
+    pub step-keeps : (s : List ℕ) → stateAfter (stepNext m n valid) (fresh n) s .kept ≡ lastOf m s
+    step-keeps s = after s .kept-is
 
     -- "the distance since the last record, capped at n"
     pub step-counts : (s : List ℕ) → Since n valid s (stateAfter (stepNext m n valid) (fresh n) s .distance)

@@ -1,11 +1,5 @@
 -- A list has no more strings than its bytes allow, and a piece behind fewer than n bytes no more than it has bytes itself.
-use mathlib.Core.List.{List}
-use mathlib.Core.Option.{Option}
-use mathlib.Core.Path.{_≡_, refl}
-use Prim.Native.Nat.{ℕ, zero, suc, _+_, _*_, _≤_, _<_}
-use native.Mathlib.Nat.{le-mul-of-pos-right, mul-comm, mul-suc}
-use native.Mathlib.Omega.{arith}
-use lib.ListN.{length}
+use Rattle.cond.proofs.Kit.{_*_, _+_, _<_, _≡_, _≤_, arith, le-mul-of-pos-right, length, List, mul-comm, mul-suc, Option, refl, suc, zero, ℕ}
 use Rattle.stream.specs.Search.{Found, firstFrom, found, goOn, notFound, searchFrom, searchTimes}
 use Rattle.stream.proofs.Search.{found-first}
 

@@ -1,15 +1,6 @@
 -- What a byte hands out depends on its window alone: on no byte before it and on none behind it.
-use mathlib.Core.Bool.{Bool, true, false}
-use mathlib.Core.List.{List, [], _++_}
-use mathlib.Core.Option.{Option, none, some}
-use mathlib.Core.Path.{_≡_, refl, sym, _∙_}
-use Prim.Native.Nat.{ℕ, _+_, _-_, _≤_, _<_}
-use native.Mathlib.Nat.{zero-add}
-use native.Mathlib.Omega.{arith}
-use borrow.Author.Tests.{le-leb, leb-false, leb-true, lt-leb}
-use lib.Dec.{leb}
-use lib.ListN.{length, drop, length-drop}
-use lib.Seq.{drop-append-add, drop-append-le, drop-drop, take-append-le}
+use Rattle.cond.proofs.Kit.{[], _++_, _+_, _-_, _<_, _∙_, _≡_, _≤_, arith, Bool, drop, drop-append-add, drop-append-le, drop-drop, false, le-leb, leb}
+use Rattle.cond.proofs.Kit.{leb-false, leb-true, length, length-drop, List, lt-leb, none, Option, refl, some, sym, take-append-le, true, zero-add, ℕ}
 use Rattle.stream.specs.Heard.{heardAt}
 use Rattle.stream.specs.Window.{window}
 

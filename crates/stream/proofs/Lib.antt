@@ -11,3 +11,4 @@ pub mod Pieces
 pub mod Few
 pub mod Listens
 pub mod Distance
+pub mod Since

@@ -1,31 +1,18 @@
 -- A listener that keeps the last m bytes hands out at each byte the record of the valid string that ends there.
-use mathlib.Core.Bool.{Bool, true, false}
-use mathlib.Core.List.{List, [], _∷_, _++_}
-use mathlib.Core.Option.{Option, none}
-use mathlib.Core.Path.{_≡_, refl, sym, _∙_}
-use Prim.Native.Nat.{ℕ, _+_, _≤_, _<_}
-use native.Mathlib.Omega.{arith}
-use borrow.Author.Tests.{le-leb, leb-false, leb-true, lt-leb}
-use lib.Dec.{leb}
-use lib.ListN.{length, length-append}
-use lib.Seq.{append-snoc}
-use Rattle.choice.specs.Pick.{pick}
+use Rattle.cond.proofs.Kit.{[], _++_, _+_, _<_, _∙_, _∷_, _≡_, _≤_, append-snoc, arith, Bool, false, le-leb, leb, leb-false, leb-true, length, length-append}
+use Rattle.cond.proofs.Kit.{List, lt-leb, none, Option, refl, sym, true, ℕ}
+use Rattle.cond.specs.Pick.{pick}
 use Rattle.stream.specs.Heard.{heardAll, heardAt, heardFrom}
 use Rattle.stream.specs.Listener.{hit, keptAfter, keptAnswer}
-use Rattle.stream.specs.Machine.{answers, stateAfter}
+use Rattle.stream.specs.Machine.{answers}
 use Rattle.stream.specs.Window.{lastOf}
 use Rattle.stream.proofs.Heard.{heard-short, heard-stays, heard-window}
-use Rattle.stream.proofs.Machine.{reached}
 use Rattle.stream.proofs.Window.{last-last, last-window, length-last, none-last}
 
 -- "The kept bytes are always the last n-1 fed"
 pub kept-step : (m : ℕ) (p : List ℕ) (b : ℕ) → keptAfter m (lastOf m p) b ≡ lastOf m (p ++ (b ∷ []))
 unfolding keptAfter
 kept-step m p b = last-last m m p (b ∷ []) (omega arith)
-
-pub kept-last : (m : ℕ) (s : List ℕ) → stateAfter (keptAfter m) [] s ≡ lastOf m s
-kept-last m s =
-    reached (keptAfter m) (λ p kept. kept ≡ lastOf m p) (λ p kept b h. rw h (kept-step m p b)) [] [] s (sym (none-last m))
 
 module _ {R : Type 0} (m n : ℕ) (valid : List ℕ → Option R) (room : n ≤ m + 1) where
   -- behind the bytes p, byte b completes the window that ends with it

@@ -1,10 +1,5 @@
 -- Demand 3 over a form of n bytes follows from what the form supplies.
-use mathlib.Core.List.{List, [], _++_}
-use mathlib.Core.Option.{Option, none, some}
-use mathlib.Core.Path.{_≡_, sym, ap, _∙_}
-use Prim.Native.Nat.{ℕ, _+_, _≤_, _<_}
-use native.Mathlib.Omega.{arith}
-use lib.ListN.{length, drop, length-append, length-drop}
+use Rattle.cond.proofs.Kit.{[], _++_, _+_, _<_, _∙_, _≡_, _≤_, ap, arith, drop, length, length-append, length-drop, List, none, Option, some, sym, ℕ}
 use Rattle.stream.specs.Answer.{Answer, answerAt, handedOut, recordsOf, refused}
 use Rattle.stream.specs.Heard.{heardAll, heardAt}
 use Rattle.stream.specs.Listener.{keptAfter, keptAnswer}
@@ -25,6 +20,7 @@ module _ {R : Type 0} (n : ℕ) (valid : List ℕ → Option R) (law : Strings n
   pub listens-by : (hears : List ℕ → List (Answer R)) → ((s : List ℕ) → hears s ≡ heardAll n valid s) → Listens n valid hears
   listens-by hears all =
       record {
+        whole = all;
         each = λ s. rw (all s) (unfold heardAll in length-heard n valid s (length s) 1);
         exact = exactly;
         never-refused = λ s k c h l e. not-refused (heardAt n valid s k) c (sym (exactly s k h l) ∙ e);

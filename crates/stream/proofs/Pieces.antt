@@ -1,22 +1,14 @@
--- Nothing is lost at the seams between the pieces of a stream, and nothing is found twice: a string that ends in a piece begins there or
+-- Nothing is lost at the boundary between two pieces of a stream, and nothing is found twice: a string that ends in a piece begins there or
 -- in the n-1 bytes in front of it, and those alone hold no whole string.
-use mathlib.Core.List.{List, [], _∷_, _++_, append-assoc, append-nil, flatten}
-use mathlib.Core.Option.{Option, none, some}
-use mathlib.Core.Path.{_≡_, refl, sym, _∙_, ap}
-use Prim.Native.Nat.{ℕ, zero, suc, _+_, _-_, _≤_}
-use native.Mathlib.Omega.{arith}
-use lib.ListN.{length, drop, length-append}
-use lib.Seq.{drop-append-le}
+use Rattle.cond.proofs.Kit.{_++_, _+_, _-_, _∙_, _∷_, _≡_, _≤_, ap, arith, drop, drop-append-le, length, length-append, List, none, Option, refl, some, suc, sym, zero, ℕ}
 use Rattle.stream.specs.Answer.{handedOut, recordsOf}
 use Rattle.stream.specs.Heard.{heardAll, heardAt, heardFrom}
-use Rattle.stream.specs.Pieces.{searchPieces}
-use Rattle.stream.specs.Search.{searchFrom, searchTimes}
+use Rattle.stream.specs.Search.{searchFrom}
 use Rattle.stream.specs.Strings.{Strings}
 use Rattle.stream.specs.Window.{lastOf}
 use Rattle.stream.proofs.Heard.{heard-short, heard-stays}
 use Rattle.stream.proofs.Records.{skip}
 use Rattle.stream.proofs.Repeated.{search-finds, search-from}
-use Rattle.stream.proofs.Window.{last-last, none-last}
 
 module _ {R : Type 0} (n : ℕ) (valid : List ℕ → Option R) where
   -- the records of c bytes and of the d bytes behind them
@@ -61,21 +53,9 @@ module _ {R : Type 0} (n : ℕ) (valid : List ℕ → Option R) where
         ∙ search-from n valid law (a ++ p) d
         ∙ rw (drop-append-le d a p (omega arith)) (sym (search-from n valid law (drop d a ++ p) 0))
 
-    seam : (a p : List ℕ) → searchFrom n valid (a ++ p) 0 ≡ searchFrom n valid a 0 ++ searchFrom n valid (lastOf (n - 1) a ++ p) 0
+    -- the records of a stream, and those of one piece more
+    pub boundary : (a p : List ℕ) → searchFrom n valid (a ++ p) 0 ≡ searchFrom n valid a 0 ++ searchFrom n valid (lastOf (n - 1) a ++ p) 0
     unfolding heardAll
-    seam a p =
+    boundary a p =
         search-from n valid law (a ++ p) 0
         ∙ rw (length-append, split (a ++ p) (length a) (length p) 1, stays a p (length a) 1 (omega arith), ends-in-piece a p, search-from n valid law a 0)
-
-    behind : (ps : List (List ℕ)) (a : List ℕ)
-        → searchFrom n valid (a ++ flatten ps) 0 ≡ searchFrom n valid a 0 ++ searchPieces n valid (lastOf (n - 1) a) ps
-    unfolding flatten searchPieces
-    behind [] a = rw (append-nil a, append-nil (searchFrom n valid a 0))
-    behind (p ∷ ps) a =
-        rw (← append-assoc a p (flatten ps), behind ps (a ++ p), seam a p, append-assoc, last-last (n - 1) (n - 1) a p (omega arith))
-
-    -- the records found piece by piece are those of the whole stream
-    pub in-pieces : (ps : List (List ℕ)) → searchPieces n valid [] ps ≡ searchFrom n valid (flatten ps) 0
-    in-pieces ps =
-        let none-before : searchFrom n valid [] 0 ≡ [] = unfold searchFrom searchTimes in refl in
-        sym (behind ps [] ∙ rw (none-before, none-last (n - 1)))

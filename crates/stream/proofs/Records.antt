@@ -1,10 +1,5 @@
 -- The list of what the bytes hand out: its entries, and its records.
-use mathlib.Core.List.{List}
-use mathlib.Core.Option.{Option, none}
-use mathlib.Core.Path.{_≡_, refl, ap}
-use Prim.Native.Nat.{ℕ, zero, suc, _+_, _-_, _≤_, _<_}
-use native.Mathlib.Omega.{arith}
-use lib.ListN.{length, getD, drop}
+use Rattle.cond.proofs.Kit.{_+_, _-_, _<_, _≡_, _≤_, ap, arith, drop, getD, length, List, none, Option, refl, suc, zero, ℕ}
 use Rattle.stream.specs.Answer.{answerAt, handedOut, nothing, recordsOf}
 use Rattle.stream.specs.Heard.{heardAll, heardAt, heardFrom}
 use Rattle.stream.proofs.Heard.{later}

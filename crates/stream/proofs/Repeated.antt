@@ -1,10 +1,5 @@
 -- Repeated search finds the records that the bytes of the list hand out, in the same order.
-use mathlib.Core.List.{List, _∷_}
-use mathlib.Core.Option.{Option, none, some}
-use mathlib.Core.Path.{_≡_, refl, sym, _∙_}
-use Prim.Native.Nat.{ℕ, zero, suc, _+_, _-_, _≤_, _<_}
-use native.Mathlib.Omega.{arith}
-use lib.ListN.{length, drop, length-drop}
+use Rattle.cond.proofs.Kit.{_+_, _-_, _<_, _∙_, _∷_, _≡_, _≤_, arith, drop, length, length-drop, List, none, Option, refl, some, suc, sym, zero, ℕ}
 use Rattle.stream.specs.Answer.{recordsOf}
 use Rattle.stream.specs.Heard.{allRecords, heardAll, heardAt, heardFrom}
 use Rattle.stream.specs.Search.{firstAmong, firstFrom, goOn, searchFrom, searchTimes}

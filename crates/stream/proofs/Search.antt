@@ -1,10 +1,5 @@
 -- A search finds the first place, and what it does not find is nowhere at or after the start.
-use mathlib.Core.List.{List}
-use mathlib.Core.Option.{Option, none, some}
-use mathlib.Core.Path.{_≡_, refl}
-use Prim.Native.Nat.{ℕ, zero, suc, _+_, _-_, _≤_, _<_}
-use native.Mathlib.Omega.{arith}
-use lib.ListN.{length, length-drop, length-take}
+use Rattle.cond.proofs.Kit.{_+_, _-_, _<_, _≡_, _≤_, arith, length, length-drop, length-take, List, none, Option, refl, some, suc, zero, ℕ}
 use Rattle.stream.specs.Search.{FirstAt, firstAmong, firstFrom, found, placeOr, notFound}
 use Rattle.stream.specs.Strings.{Strings}
 use Rattle.stream.specs.Window.{window}

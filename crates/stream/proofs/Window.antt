@@ -1,10 +1,5 @@
 -- The last bytes of a list: how many they are, and that one byte more needs only those.
-use mathlib.Core.List.{List, [], _∷_, _++_}
-use mathlib.Core.Path.{_≡_, sym}
-use Prim.Native.Nat.{ℕ, _+_, _-_, _≤_, min}
-use native.Mathlib.Omega.{arith}
-use lib.ListN.{length, drop, length-append, length-drop}
-use lib.Seq.{drop-append-le, drop-drop, drop-nil, take-all}
+use Rattle.cond.proofs.Kit.{[], _++_, _+_, _-_, _∷_, _≡_, _≤_, arith, drop, drop-append-le, drop-drop, drop-nil, length, length-append, length-drop, List, min, sym, take-all, ℕ}
 use Rattle.stream.specs.Window.{lastOf, window}
 
 pub length-last : (m : ℕ) (s : List ℕ) → length (lastOf m s) ≡ min m (length s)

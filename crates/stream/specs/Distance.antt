@@ -5,7 +5,7 @@ use mathlib.Core.Path.{_≡_}
 use Prim.Native.Nat.{ℕ, _+_, _-_, _≤_, _<_, min}
 use lib.Dec.{ltb}
 use lib.ListN.{length}
-use Rattle.choice.specs.Pick.{pick}
+use Rattle.cond.specs.Pick.{pick}
 use Rattle.stream.specs.Answer.{Answer, handed, nothing, refused}
 use Rattle.stream.specs.Heard.{heardAt}
 use Rattle.stream.specs.Listener.{hit, keptAfter}

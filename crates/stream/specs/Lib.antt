@@ -6,6 +6,5 @@ pub mod Heard
 pub mod Strings
 pub mod Listener
 pub mod Search
-pub mod Pieces
 pub mod Listens
 pub mod Distance

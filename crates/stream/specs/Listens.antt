@@ -5,11 +5,13 @@ use mathlib.Core.Path.{_≡_}
 use Prim.Native.Nat.{ℕ, _+_, _≤_, _<_}
 use lib.ListN.{length, drop}
 use Rattle.stream.specs.Answer.{Answer, answerAt, handedOut, nothing, recordsOf, refused}
-use Rattle.stream.specs.Heard.{allRecords, heardAt}
+use Rattle.stream.specs.Heard.{allRecords, heardAll, heardAt}
 use Rattle.stream.specs.Search.{searchFrom}
 
--- `hears s` is the list of its answers to the bytes s
+-- `hears s` is the list of its answers to the bytes s. All else follows from the first field.
 pub record Listens {R : Type 0} (n : ℕ) (valid : List ℕ → Option R) (hears : List ℕ → List (Answer R)) : Type 0 where
+  -- "Demand 3 is one claim about the whole list of bytes, not one for each byte."
+  pub whole : (s : List ℕ) → hears s ≡ heardAll n valid s
   -- "feed it the list byte by byte": one answer for each byte
   pub each : (s : List ℕ) → length (hears s) ≡ length s
   -- "Byte k .. hands out the record of bytes k-n+1 to k if k is at least n and they are a valid string, else nothing"

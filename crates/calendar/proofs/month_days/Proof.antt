@@ -1,10 +1,6 @@
 -- Each answer is what the definition picks at the tests that led to it.
-use mathlib.Core.Path.{_≡_, refl}
-use mathlib.Core.Bool.{Bool, true, false, _||_}
-use Prim.Native.Nat.{ℕ}
-use borrow.Author.Needs.{needs}
-use borrow.Author.Tests.{eq-eqb, ne-eqb}
-use Rattle.choice.specs.Pick.{pick}
+use Rattle.cond.proofs.Kit.{_||_, _≡_, Bool, eq-eqb, false, ne-eqb, needs, refl, true, ℕ}
+use Rattle.cond.specs.Pick.{pick}
 use Rattle.calendar.specs.Calendar.{monthDays}
 use Rattle.calendar.proofs.month_days.Statement.{statement}
 use Rattle.calendar.proofs.month_days.Tie as tie

@@ -1,19 +1,17 @@
--- The row carries a full date, ten-millionths and a channel.
-use mathlib.Core.Bool.{true}
-use mathlib.Core.List.{[], _∷_}
-use borrow.Author.Needs.{needs}
+-- The layout carries a full date, ten-millionths and a channel.
+use Rattle.cond.proofs.Kit.{[], _∷_, needs, true}
 use Rattle.forms.specs.Carries.{carriesOf}
 use Rattle.forms.specs.Fields.Channel.{hasChannel}
 use Rattle.forms.specs.Fields.Date.{fullDate, hasDate}
 use Rattle.forms.specs.Fields.Fraction.{hasFraction, tenMillionths}
-use Rattle.forms.specs.Needs.{hasAll}
+use Rattle.forms.specs.Required.{hasCarried}
 use Rattle.forms.specs.Places.{has}
-use Rattle.layout.proofs.Chain.{flat}
+use Rattle.places.proofs.Chain.{flat}
 use Rattle.capture.proofs.has_carried.Statement.{statement}
 use Rattle.capture.proofs.has_carried.Tie as tie
 
 returns : tie.Need-returns
-unfolding hasAll carriesOf has
+unfolding hasCarried carriesOf has
 returns c =
     let r = c .before .before .before .args .r in
     simp (c .before .before .has-full-date .ensures, c .before .has-ten-millionths .ensures, c .has-channel .ensures)

@@ -1,6 +1,6 @@
--- The row's second piece follows the first.
+-- The layout's second piece follows the first.
 use borrow.Author.Needs.{needs}
-use Rattle.layout.specs.Stores.{stores}
+use Rattle.places.specs.Stores.{stores}
 use Rattle.capture.proofs.store.Statement.{statement}
 use Rattle.capture.proofs.store.Tie as tie
 

@@ -1,6 +1,6 @@
--- The stores are those of the row's piece, place by place.
+-- The stores are those of the layout's piece, place by place.
 use borrow.Author.Needs.{needs}
-use Rattle.layout.specs.Stores.{stores}
+use Rattle.places.specs.Stores.{stores}
 use Rattle.capture.proofs.store_date.Statement.{statement}
 use Rattle.capture.proofs.store_date.Tie as tie
 

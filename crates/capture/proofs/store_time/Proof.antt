@@ -1,6 +1,6 @@
--- The stores are those of the row's piece, place by place.
+-- The stores are those of the layout's piece, place by place.
 use borrow.Author.Needs.{needs}
-use Rattle.layout.specs.Stores.{stores}
+use Rattle.places.specs.Stores.{stores}
 use Rattle.capture.proofs.store_time.Statement.{statement}
 use Rattle.capture.proofs.store_time.Tie as tie
 
@@ -10,4 +10,10 @@ store-time-spec =
     tie.close
     (tie.spec
     (λ c κs. search needs) (λ c κs. search needs) (λ c κs. search needs) (λ c κs. search needs) (λ c κs. search needs) (λ c. search needs)
-    (λ c κs. search needs) (λ c. search needs) (λ c. cc))
+    (λ c κs. search needs) (λ c. search needs)
+    (λ c.
+    let d = c .before .before .before .before .before .before .before in
+    let e = d .before .before .before .before .before in
+    let f = e .before .before .before .before in
+    let g = f .before .before .before .before in
+    rw (c .before .before .put-bytes .ensures, d .put-digits .ensures, d .before .ten-millionths-of .ensures, e .put-byte2 .ensures, f .put-pairs .ensures, g .put-byte .ensures)))

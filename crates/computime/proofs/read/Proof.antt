@@ -1,12 +1,10 @@
 -- Each refusal is the form's after the tests that led to it; a Computime string has no checksum and tells the weekday besides.
-use mathlib.Core.Path.{refl, sym, _∙_}
-use borrow.Author.Needs.{needs}
-use borrow.Author.Tests.{not-false, not-true}
+use Rattle.cond.proofs.Kit.{_∙_, needs, not-false, not-true, refl, sym}
 use Rattle.forms.specs.Places.{has, values}
 use Rattle.forms.specs.Serial.{computime}
 use Rattle.forms.proofs.Slots.{every}
-use Rattle.forms.proofs.Tests.{no-sum, wrong-byte, wrong-length, wrong-start}
-use Rattle.layout.proofs.Validated.{reads-on}
+use Rattle.forms.proofs.Tests.{no-checksum, wrong-byte, wrong-length, wrong-start}
+use Rattle.places.proofs.Validated.{reads-on}
 use Rattle.computime.proofs.read.Statement.{statement}
 use Rattle.computime.proofs.read.Tie as tie
 
@@ -16,7 +14,7 @@ returns-4 c =
     let k = c .before .before .before .before in
     let h = sym (k .has-shape .ensures) ∙ not-false _ (c .before .before .before .if3 .left) in
     c .validate-on .ensures
-    ∙ reads-on computime _ (k .before .before .before .if1 .left) h (no-sum _ _) refl refl refl _ _ (c .before .before .decode .ensures)
+    ∙ reads-on computime _ (k .before .before .before .if1 .left) h (no-checksum _ _) refl refl refl _ _ (c .before .before .decode .ensures)
     (c .before .number-at .ensures .0)
 
 pub read-spec : {M : Type 1} → statement M

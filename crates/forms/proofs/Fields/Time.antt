@@ -1,24 +1,19 @@
 -- The time, and what follows from it.
-use mathlib.Core.Path.{_≡_, refl}
-use mathlib.Core.Bool.{Bool, true, false, false≢true}
-use Prim.Native.Nat.{ℕ, _<_}
-use native.Mathlib.Omega.{arith}
-use borrow.Author.Tests.{eq-eqb, eqb-true, leb-true, ltb-true}
-use lib.Dec.{eqb, leb, lit<, ltb}
-use Rattle.choice.specs.Pick.{pick}
-use Rattle.choice.proofs.Tests.{both}
+use Rattle.cond.proofs.Kit.{_<_, _≡_, arith, Bool, eq-eqb, eqb, eqb-true, false, false≢true, leb, leb-true, lit<, ltb, ltb-true, refl, true, ℕ}
+use Rattle.cond.specs.Pick.{pick}
+use Rattle.cond.proofs.Tests.{both}
 use Rattle.calendar.proofs.Ranges.{weekday-range}
 use Rattle.record.specs.Record.{timeInRange}
 use Rattle.record.specs.declared.Record.{Record}
-use Rattle.forms.specs.Fields.Date.{dayTold, monthTold, yearTold}
+use Rattle.forms.specs.Fields.Date.{encodeDay, encodeMonth, encodeYear}
 use Rattle.forms.specs.Fields.Time.{deletionInRange, follows}
 use Rattle.forms.specs.Slots.{Slot, daySeconds, weekday}
-use Rattle.forms.specs.Told.{told}
+use Rattle.forms.specs.Encode.{encode}
 use Rattle.forms.proofs.Fields.Flag.{one-lt}
 use Rattle.forms.proofs.Limits.{bound}
 use Rattle.forms.proofs.Slots.{Each, _and_, derived, none, ofTime}
 
--- what follows from other slots, where the row tells it
+-- what follows from other slots, where the layout tells it
 
 pub follows-holds : (k : Bool) (n m : ℕ) → (k ≡ true → n ≡ m) → follows k n m ≡ true
 follows-holds false n m e = refl
@@ -36,22 +31,22 @@ time-lt h m s e =
     omega (arith, ltb-true h 24 (a .0), ltb-true m 60 (b .0), leb-true s 60 (b .1))
 
 module _ (r : Record) (h : timeInRange (r .hour) (r .minute) (r .second) ≡ true) where
-  pub time-lts : Each (λ (f : Slot). told r f < bound f) ofTime
+  pub time-lts : Each (λ (f : Slot). encode r f < bound f) ofTime
   unfolding bound
   time-lts =
       let t = time-lt (r .hour) (r .minute) (r .second) h in
       t .0 and t .1 and t .2 and none
 
-  pub derived-lts : Each (λ (f : Slot). told r f < bound f) derived
+  pub derived-lts : Each (λ (f : Slot). encode r f < bound f) derived
   unfolding bound
   derived-lts =
       let t = time-lt (r .hour) (r .minute) (r .second) h in
-      let w = weekday-range (yearTold (r .date)) (monthTold (r .date)) (dayTold (r .date)) in
-      let week : told r weekday < 8 = omega arith in
-      let seconds : told r daySeconds < 86401 = omega arith in
+      let w = weekday-range (encodeYear (r .date)) (encodeMonth (r .date)) (encodeDay (r .date)) in
+      let week : encode r weekday < 8 = omega arith in
+      let seconds : encode r daySeconds < 86401 = omega arith in
       week and one-lt (eqb (r .second) 60) and lit< tt and seconds and none
 
--- a deletion that a row tells or not
+-- a deletion that a layout tells or not
 pub deletion-holds : (b : Bool) (n : ℕ) → n ≡ pick b 0 0 → deletionInRange n ≡ true
 deletion-holds true n e = rw e refl
 deletion-holds false n e = rw e refl

@@ -5,14 +5,14 @@ use Rattle.record.specs.declared.Channel.{Channel}
 use Rattle.record.specs.declared.Channel.the-variants as channelIs
 use Rattle.forms.specs.Slots.{Values, channel}
 
-unfoldable pub channelFrom : Bool → Values → Channel
-channelFrom false v = channelIs.Absent
-channelFrom true v = channelIs.Number (v channel)
+unfoldable pub decodeChannel : Bool → Values → Channel
+decodeChannel false v = channelIs.Absent
+decodeChannel true v = channelIs.Number (v channel)
 
 -- what a channel tells, 0 where it is absent
-abbrev pub channelTold : Channel → ℕ
-channelTold channelIs.Absent = 0
-channelTold (channelIs.Number n) = n
+abbrev pub encodeChannel : Channel → ℕ
+encodeChannel channelIs.Absent = 0
+encodeChannel (channelIs.Number n) = n
 
 -- "a carried field is absent" where this is false
 abbrev pub hasChannel : Bool → Channel → Bool
@@ -21,11 +21,11 @@ hasChannel true channelIs.Absent = false
 hasChannel true (channelIs.Number n) = true
 
 -- absent where it is not carried
-unfoldable pub keptChannel : Bool → Channel → Channel
-keptChannel false c = channelIs.Absent
-keptChannel true c = c
+unfoldable pub carriedChannel : Bool → Channel → Channel
+carriedChannel false c = channelIs.Absent
+carriedChannel true c = c
 
--- which layout of the block's line it takes
+-- which variant of the block's line it takes
 abbrev pub channelChoice : Channel → ℕ
 channelChoice channelIs.Absent = 0
 channelChoice (channelIs.Number n) = 1

@@ -2,7 +2,7 @@
 use mathlib.Core.Bool.{Bool, true, false, _||_}
 use Prim.Native.Nat.{ℕ, zero, suc}
 use lib.Dec.{eqb}
-use Rattle.choice.specs.Pick.{pick}
+use Rattle.cond.specs.Pick.{pick}
 use Rattle.record.specs.declared.Flag.{Flag}
 use Rattle.record.specs.declared.Flag.the-variants as flagIs
 
@@ -10,7 +10,7 @@ use Rattle.record.specs.declared.Flag.the-variants as flagIs
 pub data FlagKind : Type 0 where
   noFlag ownLetter firstOfTwo secondOfTwo byQuality : FlagKind
 
--- the kind that a row tells, by whether it has a place for the field's own slot, and for the one that it shares or the TFOM
+-- the kind that a layout tells, by whether it has a place for the field's own slot, and for the one that it shares or the TFOM
 
 abbrev pub ownKind : Bool → FlagKind
 ownKind own = pick own ownLetter noFlag
@@ -39,12 +39,12 @@ yesNo (suc n) = flagIs.Yes
 
 -- "`U` utc yes and summer no; space both no; `S` utc no and summer yes" are 2, 0 and 1 of a shared letter, and so are
 -- "`!` change only, `A` leap only, space neither"; "TFOM is 0 for sync yes"
-unfoldable pub flagFrom : FlagKind → ℕ → ℕ → Flag
-flagFrom noFlag own shared = flagIs.Absent
-flagFrom ownLetter own shared = yesNo own
-flagFrom firstOfTwo own shared = pick (eqb shared 2) flagIs.Yes flagIs.No
-flagFrom secondOfTwo own shared = pick (eqb shared 1) flagIs.Yes flagIs.No
-flagFrom byQuality own shared = pick (eqb shared 0) flagIs.Yes flagIs.No
+unfoldable pub decodeFlag : FlagKind → ℕ → ℕ → Flag
+decodeFlag noFlag own shared = flagIs.Absent
+decodeFlag ownLetter own shared = yesNo own
+decodeFlag firstOfTwo own shared = pick (eqb shared 2) flagIs.Yes flagIs.No
+decodeFlag secondOfTwo own shared = pick (eqb shared 1) flagIs.Yes flagIs.No
+decodeFlag byQuality own shared = pick (eqb shared 0) flagIs.Yes flagIs.No
 
 -- "a carried field is absent" where this is false
 abbrev pub hasFlag : Bool → Flag → Bool
@@ -54,11 +54,11 @@ hasFlag true flagIs.No = true
 hasFlag true flagIs.Yes = true
 
 -- absent where it is not carried
-unfoldable pub keptFlag : Bool → Flag → Flag
-keptFlag false f = flagIs.Absent
-keptFlag true f = f
+unfoldable pub carriedFlag : Bool → Flag → Flag
+carriedFlag false f = flagIs.Absent
+carriedFlag true f = f
 
--- which layout of the block's line it takes
+-- which variant of the block's line it takes
 abbrev pub flagChoice : Flag → ℕ
 flagChoice flagIs.Absent = 0
 flagChoice flagIs.No = 1

@@ -3,18 +3,18 @@ use mathlib.Core.Bool.{Bool, true, false}
 use mathlib.Core.List.{List, [], _∷_}
 use Prim.Native.Nat.{ℕ}
 use Prim.Native.String.{String}
-use Rattle.choice.specs.Pick.{pick}
+use Rattle.cond.specs.Pick.{pick}
 use Rattle.record.specs.declared.Fraction.{Fraction}
 use Rattle.record.specs.declared.Fraction.the-variants as fractionIs
-use Rattle.forms.specs.Places.{Row, has}
+use Rattle.forms.specs.Places.{Layout, has}
 use Rattle.forms.specs.Slots.{Slot, Values, tenMillionth, thousandth}
 
 -- "thousandths .. or ten-millionths", or none
 pub data FractionKind : Type 0 where
   noFraction thousandths tenMillionths : FractionKind
 
--- the kind that a row tells
-abbrev pub fractionKind : Row → FractionKind
+-- the kind that a layout tells
+abbrev pub fractionKind : Layout → FractionKind
 fractionKind ps = pick (has ps thousandth) thousandths (pick (has ps tenMillionth) tenMillionths noFraction)
 
 -- the slots that tell a fraction of the kind
@@ -23,22 +23,22 @@ fractionSlots noFraction = []
 fractionSlots thousandths = thousandth ∷ []
 fractionSlots tenMillionths = tenMillionth ∷ []
 
-unfoldable pub fractionFrom : FractionKind → Values → Fraction
-fractionFrom noFraction v = fractionIs.Absent
-fractionFrom thousandths v = fractionIs.Thousandths (v thousandth)
-fractionFrom tenMillionths v = fractionIs.TenMillionths (v tenMillionth)
+unfoldable pub decodeFraction : FractionKind → Values → Fraction
+decodeFraction noFraction v = fractionIs.Absent
+decodeFraction thousandths v = fractionIs.Thousandths (v thousandth)
+decodeFraction tenMillionths v = fractionIs.TenMillionths (v tenMillionth)
 
 -- what a fraction tells, 0 where it is absent or of another kind
 
-abbrev pub thousandthsTold : Fraction → ℕ
-thousandthsTold fractionIs.Absent = 0
-thousandthsTold (fractionIs.Thousandths n) = n
-thousandthsTold (fractionIs.TenMillionths n) = 0
+abbrev pub encodeThousandths : Fraction → ℕ
+encodeThousandths fractionIs.Absent = 0
+encodeThousandths (fractionIs.Thousandths n) = n
+encodeThousandths (fractionIs.TenMillionths n) = 0
 
-abbrev pub tenMillionthsTold : Fraction → ℕ
-tenMillionthsTold fractionIs.Absent = 0
-tenMillionthsTold (fractionIs.Thousandths n) = 0
-tenMillionthsTold (fractionIs.TenMillionths n) = n
+abbrev pub encodeTenMillionths : Fraction → ℕ
+encodeTenMillionths fractionIs.Absent = 0
+encodeTenMillionths (fractionIs.Thousandths n) = 0
+encodeTenMillionths (fractionIs.TenMillionths n) = n
 
 -- "a carried field is absent or of the other kind" where this is false
 abbrev pub hasFraction : FractionKind → Fraction → Bool
@@ -51,12 +51,12 @@ hasFraction tenMillionths (fractionIs.Thousandths n) = false
 hasFraction tenMillionths (fractionIs.TenMillionths n) = true
 
 -- absent where it is not carried
-unfoldable pub keptFraction : FractionKind → Fraction → Fraction
-keptFraction noFraction f = fractionIs.Absent
-keptFraction thousandths f = f
-keptFraction tenMillionths f = f
+unfoldable pub carriedFraction : FractionKind → Fraction → Fraction
+carriedFraction noFraction f = fractionIs.Absent
+carriedFraction thousandths f = f
+carriedFraction tenMillionths f = f
 
--- which layout of the block's line it takes
+-- which variant of the block's line it takes
 abbrev pub fractionChoice : Fraction → ℕ
 fractionChoice fractionIs.Absent = 0
 fractionChoice (fractionIs.Thousandths n) = 1

@@ -4,20 +4,20 @@ use mathlib.Core.List.{List, [], _∷_}
 use Prim.Native.Nat.{ℕ, _+_, _*_}
 use lib.Dec.{eqb, ltb}
 use lib.IntN.{ℤ, natAbs, pos}
-use Rattle.choice.specs.Pick.{oneIf, pick}
+use Rattle.cond.specs.Pick.{oneIf, pick}
 use Rattle.record.specs.declared.Offset.{Offset}
 use Rattle.record.specs.declared.Offset.the-variants as offsetIs
 use Rattle.record.specs.Sign.{isNegative, signed}
-use Rattle.forms.specs.Fields.Sign.{negative, signTied}
-use Rattle.forms.specs.Places.{Row, has}
+use Rattle.forms.specs.Fields.Sign.{negative, signConsistent}
+use Rattle.forms.specs.Places.{Layout, has}
 use Rattle.forms.specs.Slots.{Slot, Values, halfHour, minus, offsetHours, offsetMinutes}
 
 -- an offset in hours and minutes, or in hours and half hours
 pub data OffsetKind : Type 0 where
   noOffset inMinutes inHalfHours : OffsetKind
 
--- the kind that a row tells: one that tells hours carries an offset, whatever slot tells its sign
-abbrev pub offsetKind : Row → OffsetKind
+-- the kind that a layout tells: one that tells hours carries an offset, whatever slot tells its sign
+abbrev pub offsetKind : Layout → OffsetKind
 offsetKind ps = pick (has ps halfHour) inHalfHours (pick (has ps offsetHours) inMinutes noOffset)
 
 -- the slots that tell an offset of the kind
@@ -32,14 +32,14 @@ isOffset inMinutes = true
 isOffset inHalfHours = true
 
 -- `voo:oo`, hours and minutes; in the frame "whole hours of offset" and "its half hour"
-unfoldable pub minutesFrom : OffsetKind → Values → ℕ
-minutesFrom noOffset v = 0
-minutesFrom inMinutes v = v offsetHours * 60 + v offsetMinutes
-minutesFrom inHalfHours v = v offsetHours * 60 + v halfHour * 30
+unfoldable pub decodeMinutes : OffsetKind → Values → ℕ
+decodeMinutes noOffset v = 0
+decodeMinutes inMinutes v = v offsetHours * 60 + v offsetMinutes
+decodeMinutes inHalfHours v = v offsetHours * 60 + v halfHour * 30
 
-unfoldable pub offsetFrom : Bool → ℕ → ℕ → Offset
-offsetFrom false sign n = offsetIs.Absent
-offsetFrom true sign n = offsetIs.Minutes (signed (negative sign) n)
+unfoldable pub decodeOffset : Bool → ℕ → ℕ → Offset
+decodeOffset false sign n = offsetIs.Absent
+decodeOffset true sign n = offsetIs.Minutes (signed (negative sign) n)
 
 -- what an offset tells, 0 where it is absent
 
@@ -47,11 +47,11 @@ abbrev pub minutesOf : Offset → ℤ
 minutesOf offsetIs.Absent = pos 0
 minutesOf (offsetIs.Minutes z) = z
 
-abbrev pub minusTold : Offset → ℕ
-minusTold x = oneIf (isNegative (minutesOf x))
+abbrev pub encodeMinus : Offset → ℕ
+encodeMinus x = oneIf (isNegative (minutesOf x))
 
-abbrev pub minutesTold : Offset → ℕ
-minutesTold x = natAbs (minutesOf x)
+abbrev pub encodeMinutes : Offset → ℕ
+encodeMinutes x = natAbs (minutesOf x)
 
 -- no half hour, one, or minutes that are neither
 unfoldable pub halfHourOf : ℕ → ℕ
@@ -64,11 +64,11 @@ hasOffset true offsetIs.Absent = false
 hasOffset true (offsetIs.Minutes z) = true
 
 -- absent where it is not carried
-unfoldable pub keptOffset : Bool → Offset → Offset
-keptOffset false o = offsetIs.Absent
-keptOffset true o = o
+unfoldable pub carriedOffset : Bool → Offset → Offset
+carriedOffset false o = offsetIs.Absent
+carriedOffset true o = o
 
--- which layout of the block's line it takes
+-- which variant of the block's line it takes
 abbrev pub offsetChoice : Offset → ℕ
 offsetChoice offsetIs.Absent = 0
 offsetChoice (offsetIs.Minutes z) = 1
@@ -78,5 +78,5 @@ abbrev pub minutesInRange : ℕ → Bool
 minutesInRange n = ltb n 60
 
 -- "minus .. on a zero" where this is false
-abbrev pub offsetTied : OffsetKind → Values → Bool
-offsetTied k v = signTied (v minus) (minutesFrom k v)
+abbrev pub offsetConsistent : OffsetKind → Values → Bool
+offsetConsistent k v = signConsistent (v minus) (decodeMinutes k v)

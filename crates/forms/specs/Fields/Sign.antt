@@ -9,5 +9,5 @@ negative zero = false
 negative (suc n) = true
 
 -- "minus, S or W on a zero": a zero has no minus
-unfoldable pub signTied : ℕ → ℕ → Bool
-signTied sign n = not (negative sign && eqb n 0)
+unfoldable pub signConsistent : ℕ → ℕ → Bool
+signConsistent sign n = not (negative sign && eqb n 0)

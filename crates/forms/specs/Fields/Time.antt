@@ -2,7 +2,7 @@
 use mathlib.Core.Bool.{Bool, true, false}
 use Prim.Native.Nat.{ℕ, _+_, _*_}
 use lib.Dec.{eqb}
-use Rattle.choice.specs.Pick.{oneIf}
+use Rattle.cond.specs.Pick.{oneIf}
 use Rattle.forms.specs.Slots.{Values, daySeconds, hour, leapSecond, minute, second}
 
 -- "the seconds of the day, hour x 3,600 + minute x 60 + second"
@@ -13,15 +13,15 @@ secondsOfDay h m s = h * 3600 + m * 60 + s
 abbrev pub deletionInRange : ℕ → Bool
 deletionInRange n = eqb n 0
 
--- what follows from other slots agrees with them, where the row tells it
+-- what follows from other slots agrees with them, where the layout tells it
 abbrev pub follows : Bool → ℕ → ℕ → Bool
 follows false n m = true
 follows true n m = eqb n m
 
 -- "`L` against second 60"
-unfoldable pub leapTied : Bool → Values → Bool
-leapTied k v = follows k (v leapSecond) (oneIf (eqb (v second) 60))
+unfoldable pub leapConsistent : Bool → Values → Bool
+leapConsistent k v = follows k (v leapSecond) (oneIf (eqb (v second) 60))
 
 -- "seconds of the day against the time"
-unfoldable pub secondsTied : Bool → Values → Bool
-secondsTied k v = follows k (v daySeconds) (secondsOfDay (v hour) (v minute) (v second))
+unfoldable pub secondsConsistent : Bool → Values → Bool
+secondsConsistent k v = follows k (v daySeconds) (secondsOfDay (v hour) (v minute) (v second))

@@ -1,15 +1,9 @@
 -- Each refusal is the form's after the tests that led to it; the sign element is the form's own.
-use mathlib.Core.Path.{refl, sym, _∙_, ap}
-use Prim.Native.Nat.{ℕ}
-use borrow.Author.Needs.{needs}
-use borrow.Author.Tests.{not-false, not-true}
-use denote.Ref.{now}
-use Rattle.forms.specs.Form.{carries, judged, valuesBy}
+use Rattle.cond.proofs.Kit.{_∙_, needs, not-false, not-true, refl, sym}
 use Rattle.forms.specs.Frame.{frame}
-use Rattle.forms.proofs.Accepted.{read-judged}
-use Rattle.forms.proofs.Tests.{wrong-byte, wrong-length, wrong-start, wrong-sum}
-use Rattle.frame.specs.Rows.{withMinus}
-use Rattle.frame.proofs.Form.{judged-own, minus-is}
+use Rattle.forms.proofs.Accepted.{read-validated}
+use Rattle.forms.proofs.Tests.{wrong-byte, wrong-length, wrong-start, wrong-checksum}
+use Rattle.frame.proofs.Form.{validated-own}
 use Rattle.frame.proofs.read.Statement.{statement}
 use Rattle.frame.proofs.read.Tie as tie
 
@@ -17,19 +11,15 @@ returns-4 : tie.Need-returns-4
 returns-4 c =
     let k = c .before .before .before in
     let h = sym (k .has-shape .ensures) ∙ not-false _ (c .before .before .if3 .left) in
-    sym (wrong-sum frame _ (k .before .before .before .if1 .left) h (sym (c .before .parity-holds .ensures) ∙ not-true _ (c .if4 .taken)))
+    sym (wrong-checksum frame _ (k .before .before .before .if1 .left) h (sym (c .before .parity-holds .ensures) ∙ not-true _ (c .if4 .taken)))
 
 returns-5 : tie.Need-returns-5
 returns-5 c =
     let j = c .before .before .before in
     let k = j .before .before in
-    let s = now (k .before .before .before .before .before .args .s) in
     let h = sym (k .has-shape .ensures) ∙ not-false _ (j .before .if3 .left) in
     let q = sym (j .parity-holds .ensures) ∙ not-false _ (c .before .before .if4 .left) in
-    c .judged .ensures
-    ∙ ap (λ (n : ℕ). judged (carries frame) (withMinus (valuesBy frame s) n)) (c .before .number-at .ensures .0 ∙ sym (minus-is s))
-    ∙ judged-own s
-    ∙ sym (read-judged frame s (k .before .before .before .if1 .left) h q)
+    c .validate .ensures ∙ validated-own _ _ (c .before .number-at .ensures .0) ∙ sym (read-validated frame _ (k .before .before .before .if1 .left) h q)
 
 pub read-spec : {M : Type 1} → statement M
 read-spec =

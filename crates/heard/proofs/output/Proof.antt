@@ -1,7 +1,5 @@
 -- A list of n times 0 has n elements; the law over n spares counting them.
-use mathlib.Core.Path.{_≡_, sym}
-use Prim.Native.Nat.{ℕ}
-use lib.ListN.{length, length-replicate, replicate}
+use Rattle.cond.proofs.Kit.{_≡_, length, length-replicate, replicate, sym, ℕ}
 use Rattle.heard.proofs.output.Statement.{statement}
 use Rattle.heard.proofs.output.Tie as tie
 

@@ -1,10 +1,5 @@
 -- What is dismissed before the reader runs completes no string; what is left is what the reader says of the last n bytes.
-use mathlib.Core.Path.{sym, _∙_, ap}
-use borrow.Author.Needs.{needs}
-use borrow.Author.Tests.{eq-eqb, ne-eqb}
-use native.Mathlib.Omega.{arith}
-use lib.Dec.{eqb}
-use Prim.Native.Nat.{_+_}
+use Rattle.cond.proofs.Kit.{_+_, _∙_, ap, arith, eq-eqb, eqb, ne-eqb, needs, sym}
 use Rattle.serial.specs.declared.Shape.{Shape}
 use Rattle.listener.proofs.Windows.{other-end, other-start}
 use Rattle.listener.proofs.completed.Statement.{statement}

@@ -1,8 +1,5 @@
 -- A string that was read is handed out unless the distance is under n-1; anything else is nothing.
-use Prim.Native.Nat.{_-_}
-use borrow.Author.Needs.{needs}
-use borrow.Author.Tests.{le-ltb, lt-ltb}
-use native.Mathlib.Omega.{arith}
+use Rattle.cond.proofs.Kit.{_-_, arith, le-ltb, lt-ltb, needs}
 use Rattle.listener.proofs.emitted.Statement.{statement}
 use Rattle.listener.proofs.emitted.Tie as tie
 

@@ -1,8 +1,5 @@
--- The last n bytes, laid out in a row, are what the reader gets.
-use mathlib.Core.Path.{_≡_, _∙_, ap}
-use Prim.Native.Nat.{_-_}
-use borrow.Author.Needs.{needs}
-use native.Mathlib.Omega.{arith}
+-- The last n bytes, laid out in a layout, are what the reader gets.
+use Rattle.cond.proofs.Kit.{_-_, _∙_, _≡_, ap, arith, needs}
 use Rattle.forms.specs.Valid.{recordIn, validOf}
 use Rattle.listener.proofs.Rings.{last-bytes}
 use Rattle.listener.proofs.newest.Statement.{statement}

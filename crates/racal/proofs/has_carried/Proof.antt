@@ -1,16 +1,15 @@
--- The row carries the full date alone.
-use mathlib.Core.List.{[]}
-use borrow.Author.Needs.{needs}
+-- The layout carries the full date alone.
+use Rattle.cond.proofs.Kit.{[], needs}
 use Rattle.forms.specs.Carries.{carriesOf}
 use Rattle.forms.specs.Fields.Date.{fullDate, hasDate}
-use Rattle.forms.specs.Needs.{hasAll}
+use Rattle.forms.specs.Required.{hasCarried}
 use Rattle.forms.specs.Places.{has}
-use Rattle.layout.proofs.Chain.{flat}
+use Rattle.places.proofs.Chain.{flat}
 use Rattle.racal.proofs.has_carried.Statement.{statement}
 use Rattle.racal.proofs.has_carried.Tie as tie
 
 returns : tie.Need-returns
-unfolding hasAll carriesOf has
+unfolding hasCarried carriesOf has
 returns c =
     let r = c .before .args .r in
     simp (c .has-full-date .ensures)

@@ -1,9 +1,5 @@
 -- A string with another first or last byte is no valid one; any other is read whole.
-use mathlib.Core.Path.{_≡_, sym, _∙_, ap}
-use Prim.Native.Nat.{_+_, _-_}
-use borrow.Author.Needs.{needs}
-use native.Mathlib.Omega.{arith}
-use denote.Ref.{now}
+use Rattle.cond.proofs.Kit.{_+_, _-_, _∙_, _≡_, ap, arith, needs, now, sym}
 use Rattle.forms.specs.Valid.{recordIn, validOf}
 use Rattle.search.proofs.Places.{other-end, other-start}
 use Rattle.search.proofs.read_at.Statement.{statement}

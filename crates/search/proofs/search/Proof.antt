@@ -1,8 +1,5 @@
 -- No valid string stands from the start to the place reached, so that the answer is the one from there on.
-use mathlib.Core.Path.{refl, sym, _∙_, ap}
-use Prim.Native.Nat.{_+_, _-_}
-use borrow.Author.Needs.{needs}
-use native.Mathlib.Omega.{arith}
+use Rattle.cond.proofs.Kit.{_+_, _-_, _∙_, ap, arith, needs, refl, sym}
 use Rattle.serial.specs.declared.Shape.{Shape}
 use Rattle.search.proofs.Places.{Reached, go-on, here, no-form, no-more}
 use Rattle.search.proofs.search.Statement.{statement}

@@ -1,6 +1,5 @@
 -- The length is that of the form's shape.
-use mathlib.Core.Path.{ap}
-use borrow.Author.Needs.{needs}
+use Rattle.cond.proofs.Kit.{ap, needs}
 use Rattle.serial.specs.declared.Shape.{Shape}
 use Rattle.serial.proofs.length_of.Statement.{statement}
 use Rattle.serial.proofs.length_of.Tie as tie

@@ -1,12 +1,12 @@
 -- Each arm is the answer of its form's reader; any other number has no form.
 use borrow.Author.Needs.{needs}
-use Rattle.forms.specs.Forms.{layoutOf, readAs, serialForms}
+use Rattle.forms.specs.Forms.{formKindOf, readAs, serialForms}
 use Rattle.serial.proofs.Numbers.{no-form}
 use Rattle.serial.proofs.read.Statement.{statement}
 use Rattle.serial.proofs.read.Tie as tie
 
 pub read-spec : {M : Type 1} → statement M
-unfolding readAs layoutOf
+unfolding readAs formKindOf
 read-spec =
     tie.close
     (tie.spec

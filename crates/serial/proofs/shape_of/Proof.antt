@@ -1,7 +1,6 @@
--- Each number has its form's length, first and last byte, computed from the form's row; any other number has no form.
-use mathlib.Core.Path.{sym, _∙_, ap}
-use borrow.Author.Needs.{needs}
-use Rattle.forms.specs.Forms.{layoutOf, serialForms}
+-- Each number has its form's length, first and last byte, computed from the form's layout; any other number has no form.
+use Rattle.cond.proofs.Kit.{_∙_, ap, needs, sym}
+use Rattle.forms.specs.Forms.{formKindOf, serialForms}
 use Rattle.forms.specs.Valid.{endOf, lengthOf, startOf}
 use Rattle.serial.specs.Shape.{shapeOf}
 use Rattle.serial.proofs.Numbers.{no-form}
@@ -9,7 +8,7 @@ use Rattle.serial.proofs.shape_of.Statement.{statement}
 use Rattle.serial.proofs.shape_of.Tie as tie
 
 pub shape-of-spec : {M : Type 1} → statement M
-unfolding lengthOf startOf endOf layoutOf
+unfolding lengthOf startOf endOf formKindOf
 shape-of-spec =
     tie.close
     (tie.spec

@@ -1,17 +1,15 @@
 -- Each arm is what its form's writer did; any other number has no form.
-use mathlib.Core.Path.{_≡_, ap}
-use Prim.Native.Nat.{ℕ}
-use borrow.Author.Needs.{needs}
-use Rattle.forms.specs.Forms.{layoutOf, serialForms}
+use Rattle.cond.proofs.Kit.{_≡_, ap, needs, ℕ}
+use Rattle.forms.specs.Forms.{formKindOf, serialForms}
 use Rattle.serial.proofs.Numbers.{no-form, wrote-nothing, wrote-sized}
 use Rattle.serial.proofs.write.Statement.{statement}
 use Rattle.serial.proofs.write.Tie as tie
 
-form : {n k : ℕ} → n ≡ k → layoutOf serialForms n ≡ layoutOf serialForms k
-form e = ap (layoutOf serialForms) e
+form : {n k : ℕ} → n ≡ k → formKindOf serialForms n ≡ formKindOf serialForms k
+form e = ap (formKindOf serialForms) e
 
 pub write-spec : {M : Type 1} → statement M
-unfolding layoutOf
+unfolding formKindOf
 write-spec =
     tie.close
     (tie.spec

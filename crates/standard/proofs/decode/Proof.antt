@@ -1,24 +1,14 @@
 -- Each number and each letter is a call; a shared letter tells two fields.
-use mathlib.Core.List.{List, [], _∷_}
-use mathlib.Core.Path.{refl}
-use Prim.Native.Nat.{ℕ}
-use native.Mathlib.Omega.{arith}
-use borrow.Author.Needs.{needs}
-use denote.Ref.{now}
+use Rattle.cond.proofs.Kit.{[], _∷_, arith, List, needs, now, refl, ℕ}
 use Rattle.forms.specs.Carries.{carriesOf}
-use Rattle.forms.specs.Fields.Channel.{channelFrom}
-use Rattle.forms.specs.Fields.Date.{dateFrom}
-use Rattle.forms.specs.Fields.Flag.{flagFrom}
-use Rattle.forms.specs.Fields.Fraction.{fractionFrom}
-use Rattle.forms.specs.Fields.Offset.{minutesFrom, offsetFrom}
-use Rattle.forms.specs.Fields.Position.{positionFrom}
+use Rattle.forms.specs.Decode.{decodeChannel, decodeDate, decodeFlag, decodeFraction, decodeMinutes, decodeOffset, decodePosition}
 use Rattle.forms.specs.Places.{has, values}
-use Rattle.layout.proofs.Letters.{flag-letter, letter-of}
+use Rattle.places.proofs.Letters.{flag-letter, letter-of}
 use Rattle.standard.proofs.decode.Statement.{statement}
 use Rattle.standard.proofs.decode.Tie as tie
 
 returns : tie.Need-returns
-unfolding carriesOf has values dateFrom fractionFrom channelFrom flagFrom offsetFrom positionFrom minutesFrom
+unfolding carriesOf has values decodeDate decodeFraction decodeChannel decodeFlag decodeOffset decodePosition decodeMinutes
 returns c =
     let s = now (c .before .before .before .before .before .before .before .before .before .before .before .before .before .before .args .s) in
     let l = c .before .before .before .before .before .before .before .before .before .before .before .before .before .before .pre in

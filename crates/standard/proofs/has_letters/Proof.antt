@@ -1,6 +1,5 @@
--- Each part of the test is a call, in the order of the row's end.
-use mathlib.Core.Bool.{and-assoc, and-true}
-use borrow.Author.Needs.{needs}
+-- Each part of the test is a call, in the order of the layout's end.
+use Rattle.cond.proofs.Kit.{and-assoc, and-true, needs}
 use Rattle.forms.specs.Places.{shape}
 use Rattle.standard.proofs.has_letters.Statement.{statement}
 use Rattle.standard.proofs.has_letters.Tie as tie
@@ -10,5 +9,6 @@ unfolding shape
 has-letters-spec =
     tie.close
     (tie.spec
-    (λ c κs. search needs) (λ c κs. search needs) (λ c κs. search needs) (λ c κs. search needs) (λ c κs. search needs)
+    (λ c. search needs) (λ c κs. search needs) (λ c. search needs) (λ c κs. search needs) (λ c. search needs) (λ c κs. search needs)
+    (λ c. search needs) (λ c κs. search needs) (λ c κs. search needs)
     (λ c. simp (and-assoc, and-true) (cc)))

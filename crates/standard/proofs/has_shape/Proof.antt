@@ -1,6 +1,5 @@
--- Each part of the test is a call, in the order of the row; the last one tests the row's end.
-use mathlib.Core.Bool.{and-assoc}
-use borrow.Author.Needs.{needs}
+-- Each part of the test is a call, in the order of the layout; the last one tests the layout's end.
+use Rattle.cond.proofs.Kit.{and-assoc, needs}
 use Rattle.forms.specs.Places.{shape}
 use Rattle.standard.proofs.has_shape.Statement.{statement}
 use Rattle.standard.proofs.has_shape.Tie as tie

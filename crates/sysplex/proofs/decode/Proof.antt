@@ -1,21 +1,14 @@
--- Each number and the letter is a call, and the row carries the day of year and sync alone.
-use native.Mathlib.Omega.{arith}
-use borrow.Author.Needs.{needs}
-use denote.Ref.{now}
+-- Each number and the letter is a call, and the layout carries the day of year and sync alone.
+use Rattle.cond.proofs.Kit.{arith, needs, now}
 use Rattle.forms.specs.Carries.{carriesOf}
-use Rattle.forms.specs.Fields.Channel.{channelFrom}
-use Rattle.forms.specs.Fields.Date.{dateFrom}
-use Rattle.forms.specs.Fields.Flag.{flagFrom}
-use Rattle.forms.specs.Fields.Fraction.{fractionFrom}
-use Rattle.forms.specs.Fields.Offset.{minutesFrom, offsetFrom}
-use Rattle.forms.specs.Fields.Position.{positionFrom}
+use Rattle.forms.specs.Decode.{decodeChannel, decodeDate, decodeFlag, decodeFraction, decodeMinutes, decodeOffset, decodePosition}
 use Rattle.forms.specs.Places.{has, values}
-use Rattle.layout.proofs.Letters.{flag-letter}
+use Rattle.places.proofs.Letters.{flag-letter}
 use Rattle.sysplex.proofs.decode.Statement.{statement}
 use Rattle.sysplex.proofs.decode.Tie as tie
 
 returns : tie.Need-returns
-unfolding carriesOf has values dateFrom fractionFrom channelFrom flagFrom offsetFrom positionFrom minutesFrom
+unfolding carriesOf has values decodeDate decodeFraction decodeChannel decodeFlag decodeOffset decodePosition decodeMinutes
 returns c =
     let k = c .before .before .before in
     simp (k .before .before .number-at .ensures .0, k .before .number-at2 .ensures .0, k .number-at3 .ensures .0)

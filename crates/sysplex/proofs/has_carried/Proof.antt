@@ -1,18 +1,16 @@
--- The row carries a date of either kind and sync.
-use mathlib.Core.Bool.{true}
-use mathlib.Core.List.{[], _∷_}
-use borrow.Author.Needs.{needs}
+-- The layout carries a date of either kind and sync.
+use Rattle.cond.proofs.Kit.{[], _∷_, needs, true}
 use Rattle.forms.specs.Carries.{carriesOf}
 use Rattle.forms.specs.Fields.Date.{hasDate, ordinalDate}
 use Rattle.forms.specs.Fields.Flag.{hasFlag}
-use Rattle.forms.specs.Needs.{hasAll}
+use Rattle.forms.specs.Required.{hasCarried}
 use Rattle.forms.specs.Places.{has}
-use Rattle.layout.proofs.Chain.{flat}
+use Rattle.places.proofs.Chain.{flat}
 use Rattle.sysplex.proofs.has_carried.Statement.{statement}
 use Rattle.sysplex.proofs.has_carried.Tie as tie
 
 returns : tie.Need-returns
-unfolding hasAll carriesOf has
+unfolding hasCarried carriesOf has
 returns c =
     let r = c .before .before .args .r in
     simp (c .before .has-day-of-year .ensures, c .has-flag .ensures)

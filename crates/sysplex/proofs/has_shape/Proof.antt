@@ -1,6 +1,5 @@
--- Each part of the test is a call, in the order of the row; three numbers with colons between them are one.
-use mathlib.Core.Bool.{and-assoc, and-true}
-use borrow.Author.Needs.{needs}
+-- Each part of the test is a call, in the order of the layout; three numbers with colons between them are one.
+use Rattle.cond.proofs.Kit.{and-assoc, and-true, needs}
 use Rattle.forms.specs.Places.{shape}
 use Rattle.sysplex.proofs.has_shape.Statement.{statement}
 use Rattle.sysplex.proofs.has_shape.Tie as tie
@@ -8,7 +7,7 @@ use Rattle.sysplex.proofs.has_shape.Tie as tie
 returns : tie.Need-returns
 unfolding shape
 returns c =
-    let k = c .before .before .before in
+    let k = c .before .before .before .before in
     simp (and-assoc, and-true)
     (simp (k .before .before .before .is-at .ensures, k .before .before .digits-at .ensures, k .before .is-at2 .ensures)
     (simp (k .pairs-at .ensures, c .before .before .letter-at .ensures, c .text-at .ensures, and-assoc)))
@@ -17,5 +16,5 @@ pub has-shape-spec : {M : Type 1} → statement M
 has-shape-spec =
     tie.close
     (tie.spec
-    (λ c κs. search needs) (λ c κs. search needs) (λ c κs. search needs) (λ c κs. search needs) (λ c κs. search needs) (λ c. search needs)
-    (λ c κs. search needs) returns)
+    (λ c κs. search needs) (λ c κs. search needs) (λ c κs. search needs) (λ c κs. search needs) (λ c. search needs) (λ c κs. search needs)
+    (λ c. search needs) (λ c κs. search needs) returns)

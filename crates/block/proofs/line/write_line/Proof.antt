@@ -1,13 +1,9 @@
 -- Each number has its own line, and each line its own writer.
-use mathlib.Core.Path.{refl}
-use native.Mathlib.Omega.{arith}
-use Rattle.forms.specs.Places.{rowWidth}
+use Rattle.cond.proofs.Kit.{needs, refl}
 use Rattle.forms.specs.Slots.{change, dsp, fix, leap, lsp, summer, sync, utc}
-use Rattle.forms.proofs.Choices.{channel-own}
 use Rattle.block_lines.specs.Flags.{flagIn, flagSlot}
 use Rattle.block.specs.Lines.{lineOf}
-use Rattle.block.proofs.Flags.{flag-room, flag-written, last-line}
-use borrow.Author.Needs.{needs}
+use Rattle.block.proofs.Flags.{flag-written, last-line}
 use Rattle.block.proofs.line.write_line.Statement.{statement}
 use Rattle.block.proofs.line.write_line.Tie as tie
 
@@ -15,40 +11,10 @@ pub write-line-spec : {M : Type 1} → statement M
 write-line-spec =
     tie.close
     (tie.spec
-    (λ c κs. unfold lineOf in simp (c .before .match .keys1) at (c .before .before .before .pre .1))
-    (λ c κs. unfold lineOf rowWidth in simp (c .before .match .keys2) at (c .before .before .before .pre .1))
-    (λ c κs. unfold lineOf in simp (c .before .match .keys3) at (c .before .before .before .pre .1))
-    (λ c κs. unfold lineOf in omega (
-      arith,
-      channel-own (c .before .before .before .args .r .channel) .low,
-      simp (c .before .match .keys4) at (c .before .before .before .pre .1),
-    ))
-    (λ c. search needs)
-    (λ c κs. unfold lineOf flagSlot flagIn in flag-room "sync=" sync (c .before .before .before .before .args .r) _ 4
-    (c .before .before .match .keys5) refl _ (c .before .before .before .before .pre .1))
-    (λ c. search needs)
-    (λ c κs. unfold lineOf flagSlot flagIn in flag-room "fix=" fix (c .before .before .before .before .args .r) _ 5
-    (c .before .before .match .keys6) refl _ (c .before .before .before .before .pre .1))
-    (λ c. search needs)
-    (λ c κs. unfold lineOf flagSlot flagIn in flag-room "utc=" utc (c .before .before .before .before .args .r) _ 6
-    (c .before .before .match .keys7) refl _ (c .before .before .before .before .pre .1))
-    (λ c. search needs)
-    (λ c κs. unfold lineOf flagSlot flagIn in flag-room "summer=" summer (c .before .before .before .before .args .r) _ 7
-    (c .before .before .match .keys8) refl _ (c .before .before .before .before .pre .1))
-    (λ c. search needs)
-    (λ c κs. unfold lineOf flagSlot flagIn in flag-room "change=" change (c .before .before .before .before .args .r) _ 8
-    (c .before .before .match .keys9) refl _ (c .before .before .before .before .pre .1))
-    (λ c. search needs)
-    (λ c κs. unfold lineOf flagSlot flagIn in flag-room "leap=" leap (c .before .before .before .before .args .r) _ 9
-    (c .before .before .match .keys10) refl _ (c .before .before .before .before .pre .1))
-    (λ c κs. unfold lineOf in simp (c .before .match .keys11) at (c .before .before .before .pre .1))
-    (λ c κs. unfold lineOf in simp (c .before .match .keys12) at (c .before .before .before .pre .1)) (λ c. search needs)
-    (λ c κs. unfold lineOf flagSlot flagIn in flag-room "dsp=" dsp (c .before .before .before .before .args .r) _ 12
-    (c .before .before .match .keys13) refl _ (c .before .before .before .before .pre .1))
-    (λ c. search needs)
-    (λ c κs. unfold lineOf flagSlot flagIn in flag-room "lsp=" lsp (c .before .before .before .before .args .r) _ 13
-    (last-line _ (c .before .before .before .before .pre .0) (c .before .before .match .rest)) refl _ (c .before .before .before .before .pre .1))
-    (λ c. search needs)
+    (λ c κs. search needs) (λ c κs. search needs) (λ c κs. search needs) (λ c κs. search needs) (λ c. search needs) (λ c κs. search needs)
+    (λ c. search needs) (λ c κs. search needs) (λ c. search needs) (λ c κs. search needs) (λ c. search needs) (λ c κs. search needs)
+    (λ c. search needs) (λ c κs. search needs) (λ c. search needs) (λ c κs. search needs) (λ c κs. search needs) (λ c κs. search needs)
+    (λ c. search needs) (λ c κs. search needs) (λ c. search needs) (λ c κs. search needs) (λ c. search needs)
     (λ c. unfold lineOf in simp (c .before .before .before .before .match .keys1) (c .before .before .write-date .ensures))
     (λ c. search needs)
     (λ c. unfold lineOf in simp (c .before .before .before .before .match .keys2) (c .before .before .write-time .ensures))
@@ -83,5 +49,5 @@ write-line-spec =
     (c .before .before .before .before .before .match .keys13) refl _ _ _ (c .before .before .write-flag7 .ensures))
     (λ c. search needs)
     (λ c. unfold lineOf flagSlot flagIn in flag-written "lsp=" lsp (c .before .before .before .before .before .before .before .args .r) _ 13
-    (last-line _ (c .before .before .before .before .before .before .before .pre .0) (c .before .before .before .before .before .match .rest)) refl _ _ _
+    (last-line _ (c .before .before .before .before .before .before .before .pre) (c .before .before .before .before .before .match .rest)) refl _ _ _
     (c .before .before .write-flag8 .ensures)))

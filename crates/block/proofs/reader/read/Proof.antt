@@ -1,9 +1,8 @@
 -- Bytes of another length are refused; any others are what their lines come to.
-use mathlib.Core.Path.{sym, _∙_}
+use Rattle.cond.proofs.Kit.{_∙_, needs, sym}
 use Rattle.forms.specs.Block.{firstEdition}
 use Rattle.block.proofs.Answers.{read-block}
 use Rattle.block.proofs.First.{readable, too-long, too-short}
-use borrow.Author.Needs.{needs}
 use Rattle.block.proofs.reader.read.Statement.{statement}
 use Rattle.block.proofs.reader.read.Tie as tie
 

@@ -1,7 +1,6 @@
 -- The sizes of the lines add up to that of the form.
-use Rattle.block.proofs.Rows.{block-size}
-use native.Mathlib.Omega.{arith}
-use borrow.Author.Needs.{needs}
+use Rattle.block.proofs.Layouts.{block-size}
+use Rattle.cond.proofs.Kit.{arith, needs}
 use Rattle.block.proofs.size.size.Statement.{statement}
 use Rattle.block.proofs.size.size.Tie as tie
 

@@ -1,13 +1,8 @@
 -- Each answer is the form's answer after the tests that led to it; the block asks for no field and has a word for every record.
-use mathlib.Core.Path.{sym, _∙_}
-use Prim.Native.Nat.{_≤_}
-use native.Mathlib.Omega.{arith}
-use lib.ListN.{length}
-use denote.Ref.{now}
+use Rattle.cond.proofs.Kit.{_∙_, _≤_, arith, length, needs, now, sym}
 use Rattle.forms.specs.Block.{blockOf, firstEdition}
 use Rattle.forms.proofs.Writes.{bad-record, short-buffer, written-as}
-use Rattle.block.proofs.Rows.{block-complete, block-stored, block-worded}
-use borrow.Author.Needs.{needs}
+use Rattle.block.proofs.Layouts.{block-complete, block-stored, block-has-words}
 use Rattle.block.proofs.writer.write.Statement.{statement}
 use Rattle.block.proofs.writer.write.Tie as tie
 
@@ -15,7 +10,7 @@ returns : tie.Need-returns
 returns c =
     let a = c .before .before .before .before .before .args in
     let g = sym (c .before .before .before .is-good .ensures) ∙ c .before .before .if1 .taken in
-    short-buffer (blockOf firstEdition (a .r)) (a .r) (now (a .out)) g (block-complete (a .r)) (block-worded (a .r) g) (omega (arith, c .before .size .ensures))
+    short-buffer (blockOf firstEdition (a .r)) (a .r) (now (a .out)) g (block-complete (a .r)) (block-has-words (a .r) g) (omega (arith, c .before .size .ensures))
 
 returns-2 : tie.Need-returns-2
 returns-2 c =
@@ -23,7 +18,7 @@ returns-2 c =
     let g = sym (c .before .before .before .before .before .before .before .is-good .ensures) ∙ c .before .before .before .before .before .before .if1 .taken in
     let n = c .before .before .before .before .before .size .ensures in
     let l : blockOf firstEdition (a .r) .size ≤ length (now (a .out)) = omega (arith, c .before .before .before .before .if2 .left) in
-    rw n (written-as (blockOf firstEdition (a .r)) (a .r) (now (a .out)) g (block-complete (a .r)) (block-worded (a .r) g) _ l (c .before .before .write-lines .ensures ∙ block-stored (a .r) g (now (a .out)) l))
+    rw n (written-as (blockOf firstEdition (a .r)) (a .r) (now (a .out)) g (block-complete (a .r)) (block-has-words (a .r) g) _ l (c .before .before .write-lines .ensures ∙ block-stored (a .r) g (now (a .out)) l))
 
 pub write-spec : {M : Type 1} → statement M
 write-spec =

@@ -1,20 +1,16 @@
--- Behind i lines the buffer holds their row, and the column is its width; each turn stores one line more.
-use mathlib.Core.Path.{_≡_, refl, _∙_, ap}
-use Prim.Native.Nat.{_+_, _-_, _≤_}
-use native.Mathlib.Omega.{arith}
-use lib.ListN.{length}
-use Rattle.forms.specs.Places.{Row, rowWidth}
-use Rattle.forms.specs.Told.{told}
-use Rattle.layout.specs.Stores.{stores}
-use Rattle.block.proofs.Lent.{lent-length, stores-length}
-use Rattle.block.proofs.Progress.{all-lines, line-room, line-stored, line-width, none-stored, none-width, rowTo}
-use borrow.Author.Needs.{needs}
+-- Behind i lines the buffer holds their layout, and the column is its width; each turn stores one line more.
+use Rattle.cond.proofs.Kit.{_+_, _-_, _∙_, _≡_, _≤_, ap, arith, length, needs, refl}
+use Rattle.forms.specs.Places.{Layout, layoutWidth}
+use Rattle.forms.specs.Encode.{encode}
+use Rattle.places.specs.Stores.{stores}
+use Rattle.block.proofs.Lent.{stores-length}
+use Rattle.block.proofs.Progress.{all-lines, line-room, line-stored, line-width, none-stored, none-width, layoutTo}
 use Rattle.block.proofs.writer.write_lines.Statement.{statement}
 use Rattle.block.proofs.writer.write_lines.Tie as tie
 
 abbrev Inv-loop : tie.InvT-loop
 Inv-loop r out₀ at₀ i₀ out at i =
-    (i ≤ 14) × (length out ≡ length out₀) × (at ≡ rowWidth (rowTo r i)) × (out ≡ stores (rowTo r i) 0 (told r) out₀)
+    (i ≤ 14) × (length out ≡ length out₀) × (at ≡ layoutWidth (layoutTo r i)) × (out ≡ stores (layoutTo r i) 0 (encode r) out₀)
 
 abbrev μ-loop : tie.MeasureT-loop
 μ-loop r out₀ at₀ i₀ out at i = 14 - i
@@ -27,7 +23,7 @@ loop-again c =
     let m = line-room r (l .i) (omega arith) in
     let h = line-stored r (l .i) (omega arith) (l .at) (l .inv .2) o (l .out) _ (l .inv .3) (omega arith) (c .before .before .write-line .ensures .1) in
     let w = line-width r (l .i) (omega arith) (l .at) (l .inv .2) _ (c .before .before .write-line .ensures .0) in
-    (omega arith, ap length h ∙ stores-length (rowTo r (l .i + 1)) 0 (told r) o, w, h)
+    (omega arith, ap length h ∙ stores-length (layoutTo r (l .i + 1)) 0 (encode r) o, w, h)
 
 pub write-lines-spec : {M : Type 1} → statement M
 write-lines-spec =
@@ -37,13 +33,7 @@ write-lines-spec =
     (λ c. omega (arith, line-room (c .before .before .before .args .r) (c .before .loop .i) (omega arith)))
     (λ c. omega (arith, line-room (c .before .before .before .args .r) (c .before .loop .i) (omega arith)))
     (λ c. omega (arith, line-room (c .before .before .before .args .r) (c .before .loop .i) (omega arith)))
-    (λ c κs. (
-      search needs,
-      rw (lent-length (c .before .before .loop .out) (c .before .before .loop .at)) (omega (
-        arith,
-        line-room (c .before .before .before .before .args .r) (c .before .before .loop .i) (omega arith),
-      )),
-    ))
+    (λ c κs. search needs)
     (λ c. omega (
       arith,
       line-room (c .before .before .before .before .before .before .before .args .r) (c .before .before .before .before .before .loop .i) (omega arith),
@@ -51,5 +41,5 @@ write-lines-spec =
     ))
     (λ c. omega arith) (λ c. omega arith) loop-again (λ c. c .before .loop .inv .1)
     (λ c. c .before .loop .inv .3 ∙ ap
-    (λ (ps : Row). stores ps 0 (told (c .before .before .before .args .r)) (c .before .before .before .args .out .now))
+    (λ (ps : Layout). stores ps 0 (encode (c .before .before .before .args .r)) (c .before .before .before .args .out .now))
     (all-lines (c .before .before .before .args .r) (c .before .loop .i) (omega arith))))

@@ -1,8 +1,8 @@
--- Each case of the field has its own layout, which the callee stores.
-use Rattle.layout.specs.Stores.{stores}
-use Rattle.forms.specs.Places.{rowWidth}
-use native.Mathlib.Omega.{arith}
-use borrow.Author.Needs.{needs}
+-- Each case of the field has its own variant, which the callee stores.
+use Rattle.cond.proofs.Kit.{ap, needs}
+use Rattle.forms.specs.Encode.{encode}
+use Rattle.forms.specs.Fields.Fraction.{encodeTenMillionths, encodeThousandths}
+use Rattle.forms.specs.Slots.{tenMillionth, thousandth}
 use Rattle.block_lines.proofs.fraction.write_fraction.Statement.{statement}
 use Rattle.block_lines.proofs.fraction.write_fraction.Tie as tie
 
@@ -10,21 +10,10 @@ pub write-fraction-spec : {M : Type 1} → statement M
 write-fraction-spec =
     tie.close
     (tie.spec
-    (λ c. search needs) (λ c. search needs) (λ c. search needs)
-    (λ c κs. unfold rowWidth in omega (
-      arith,
-      simp (c .before .before .before .enum-told .given .1) at (c .before .before .before .before .before .before .pre),
-    ))
-    (λ c. search needs) (λ c. search needs)
-    (λ c κs. unfold rowWidth in omega (arith, simp (c .before .before .before .fraction .given .1) at (c .before .before .before .before .before .before .pre)))
-    (λ c. search needs) (λ c. search needs)
-    (λ c κs. unfold rowWidth in omega (
-      arith,
-      simp (c .before .before .before .fraction2 .given .1) at (c .before .before .before .before .before .before .pre),
-    ))
+    (λ c. search needs) (λ c. search needs) (λ c. search needs) (λ c κs. search needs) (λ c. search needs) (λ c. search needs) (λ c κs. search needs)
+    (λ c. search needs) (λ c. search needs) (λ c κs. search needs) (λ c. search needs)
+    (λ c. simp (c .before .before .before .before .before .before .enum-told .given .1) (c .before .before .put-word .ensures (encode _)))
     (λ c. search needs)
-    (λ c. unfold stores rowWidth in simp (c .before .before .before .before .before .before .enum-told .given .1) (c .before .before .put-word .ensures))
+    (λ c. simp (c .before .before .before .before .before .before .fraction .given .1) (c .before .before .put-number .ensures thousandth (encode _) (ap encodeThousandths (c .before .before .before .before .before .before .fraction .given .1))))
     (λ c. search needs)
-    (λ c. unfold stores rowWidth in simp (c .before .before .before .before .before .before .fraction .given .1) (c .before .before .put-number .ensures))
-    (λ c. search needs)
-    (λ c. unfold stores rowWidth in simp (c .before .before .before .before .before .before .fraction2 .given .1) (c .before .before .put-number2 .ensures)))
+    (λ c. simp (c .before .before .before .before .before .before .fraction2 .given .1) (c .before .before .put-number2 .ensures tenMillionth (encode _) (ap encodeTenMillionths (c .before .before .before .before .before .before .fraction2 .given .1)))))

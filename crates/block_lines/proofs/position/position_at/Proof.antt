@@ -1,25 +1,21 @@
 -- Each sign is its letter's, and the degrees are far below what 32 bits hold.
-use mathlib.Core.Path.{_∙_}
-use mir.Facts.{toZ-ofZ}
-use mir.Syntax.{w32}
-use mir.Val.{SFits}
-use Rattle.forms.specs.Fields.Position.{positionFrom}
+use Rattle.cond.proofs.Kit.{_∙_, arith, needs, SFits, toZ-ofZ, w32}
+use Rattle.record.proofs.Signs.{signed-small}
+use Rattle.forms.specs.Fields.Position.{decodePosition}
 use Rattle.forms.specs.Places.{values}
-use Rattle.block_lines.proofs.Signs.{same-position, signed-at}
-use native.Mathlib.Omega.{arith}
-use borrow.Author.Needs.{needs}
+use Rattle.places.proofs.Signed.{same-position, signed-at}
 use Rattle.block_lines.proofs.position.position_at.Statement.{statement}
 use Rattle.block_lines.proofs.position.position_at.Tie as tie
 
 returns : tie.Need-returns
-unfolding values positionFrom
+unfolding values decodePosition
 returns c =
     let l = c .before .before .before .before .before .before .before .before .pre in
     let latitude : SFits w32 (c .before .before .before .signed-number .result) = search needs in
     let longitude : SFits w32 (c .before .signed-number2 .result) = search needs in
     same-position _ _ _ _ _ _
-    (toZ-ofZ latitude ∙ c .before .before .before .signed-number .ensures ∙ signed-at (c .before .before .before .before .before .before .before .before .args .s .now) 9 (omega arith) _ _ (c .before .before .before .before .degrees-at .ensures .0))
-    (toZ-ofZ longitude ∙ c .before .signed-number2 .ensures ∙ signed-at (c .before .before .before .before .before .before .before .before .args .s .now) 19 (omega arith) _ _ (c .before .before .degrees-at2 .ensures .0))
+    (toZ-ofZ latitude ∙ c .before .before .before .signed-number .ensures ∙ signed-small _ _ (c .before .before .before .before .degrees-at .ensures .1) ∙ signed-at (c .before .before .before .before .before .before .before .before .args .s .now) 9 (omega arith) 43 45 _ _ (c .before .before .before .before .degrees-at .ensures .0))
+    (toZ-ofZ longitude ∙ c .before .signed-number2 .ensures ∙ signed-small _ _ (c .before .before .degrees-at2 .ensures .1) ∙ signed-at (c .before .before .before .before .before .before .before .before .args .s .now) 19 (omega arith) 43 45 _ _ (c .before .before .degrees-at2 .ensures .0))
     (c .number-at .ensures .0)
 
 pub position-at-spec : {M : Type 1} → statement M

@@ -1,8 +1,7 @@
--- The stores are those of the row, place by place.
-use mathlib.Core.Path.{refl}
-use Rattle.layout.specs.Stores.{stores}
-use Rattle.forms.specs.Places.{rowWidth}
-use borrow.Author.Needs.{needs}
+-- The stores are those of the layout, place by place.
+use Rattle.cond.proofs.Kit.{needs, refl}
+use Rattle.places.specs.Stores.{stores}
+use Rattle.forms.specs.Places.{layoutWidth}
 use Rattle.block_lines.proofs.time.write_time.Statement.{statement}
 use Rattle.block_lines.proofs.time.write_time.Tie as tie
 
@@ -11,4 +10,11 @@ write-time-spec =
     tie.close
     (tie.spec
     (λ c. search needs) (λ c κs. search needs) (λ c κs. search needs) (λ c κs. search needs) (λ c. search needs)
-    (λ c. unfold stores rowWidth in (refl, cc)))
+    (λ c. unfold stores layoutWidth in (
+      refl,
+      rw (
+        c .before .before .put-byte .ensures,
+        c .before .before .before .before .before .before .put-pairs .ensures,
+        c .before .before .before .before .before .before .before .before .before .before .put-bytes .ensures,
+      ),
+    )))

@@ -1,12 +1,12 @@
 -- Each number is a call.
-use Rattle.forms.specs.Fields.Date.{dateFrom}
+use Rattle.forms.specs.Fields.Date.{decodeDate}
 use Rattle.forms.specs.Places.{values}
 use borrow.Author.Needs.{needs}
 use Rattle.erlangen.proofs.reader.date_at.Statement.{statement}
 use Rattle.erlangen.proofs.reader.date_at.Tie as tie
 
 pub date-at-spec : {M : Type 1} → statement M
-unfolding values dateFrom
+unfolding values decodeDate
 date-at-spec =
     tie.close
     (tie.spec

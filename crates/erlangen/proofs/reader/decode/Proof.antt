@@ -1,18 +1,14 @@
 -- Each field is a call; a flag's letter for no comes first.
-use native.Mathlib.Omega.{arith}
-use borrow.Author.Needs.{needs}
-use denote.Ref.{now}
+use Rattle.cond.proofs.Kit.{arith, needs, now}
 use Rattle.forms.specs.Carries.{carriesOf}
-use Rattle.forms.specs.Fields.Channel.{channelFrom}
-use Rattle.forms.specs.Fields.Flag.{flagFrom}
-use Rattle.forms.specs.Fields.Fraction.{fractionFrom}
+use Rattle.forms.specs.Decode.{decodeChannel, decodeFlag, decodeFraction}
 use Rattle.forms.specs.Places.{has, values}
-use Rattle.layout.proofs.Letters.{flag-letter}
+use Rattle.places.proofs.Letters.{flag-letter}
 use Rattle.erlangen.proofs.reader.decode.Statement.{statement}
 use Rattle.erlangen.proofs.reader.decode.Tie as tie
 
 returns : tie.Need-returns
-unfolding carriesOf has values fractionFrom channelFrom flagFrom
+unfolding carriesOf has values decodeFraction decodeChannel decodeFlag
 returns c =
     let s = now (c .before .before .before .before .before .before .before .before .before .before .before .before .before .args .s) in
     let l = c .before .before .before .before .before .before .before .before .before .before .before .before .before .pre in

@@ -1,9 +1,5 @@
 -- Each refusal is the form's after the tests that led to it; a Uni Erlangen string has no checksum.
-use mathlib.Core.Path.{ap, refl, sym, _∙_}
-use Prim.Native.Nat.{ℕ}
-use borrow.Author.Needs.{needs}
-use borrow.Author.Tests.{not-false, not-true}
-use lib.Dec.{ltb}
+use Rattle.cond.proofs.Kit.{_∙_, ap, ltb, needs, not-false, not-true, refl, sym, ℕ}
 use Rattle.forms.specs.Places.{values}
 use Rattle.forms.specs.Serial.{erlangen}
 use Rattle.forms.proofs.Tests.{wrong-byte, wrong-length, wrong-start}

@@ -1,9 +1,6 @@
--- The row is tested in its six pieces.
-use mathlib.Core.Bool.{and-assoc}
-use mathlib.Core.Path.{sym}
-use denote.Ref.{now}
-use Rattle.erlangen.proofs.Row.{shape-pieces}
-use borrow.Author.Needs.{needs}
+-- The layout is tested in its six pieces.
+use Rattle.cond.proofs.Kit.{and-assoc, needs, now, sym}
+use Rattle.erlangen.proofs.Pieces.{shape-pieces}
 use Rattle.erlangen.proofs.shape.has_shape.Statement.{statement}
 use Rattle.erlangen.proofs.shape.has_shape.Tie as tie
 

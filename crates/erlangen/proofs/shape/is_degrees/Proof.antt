@@ -1,6 +1,5 @@
 -- Each part of the test is a call.
-use mathlib.Core.Bool.{and-assoc}
-use borrow.Author.Needs.{needs}
+use Rattle.cond.proofs.Kit.{and-assoc, needs}
 use Rattle.erlangen.proofs.shape.is_degrees.Statement.{statement}
 use Rattle.erlangen.proofs.shape.is_degrees.Tie as tie
 

@@ -1,7 +1,6 @@
 -- Each part of the test is a call, in the order of the piece.
-use mathlib.Core.Bool.{and-assoc, and-true}
+use Rattle.cond.proofs.Kit.{and-assoc, and-true, needs}
 use Rattle.forms.specs.Places.{shape}
-use borrow.Author.Needs.{needs}
 use Rattle.erlangen.proofs.shape.is_offset.Statement.{statement}
 use Rattle.erlangen.proofs.shape.is_offset.Tie as tie
 
@@ -10,5 +9,5 @@ unfolding shape
 is-offset-spec =
     tie.close
     (tie.spec
-    (λ c κs. search needs) (λ c κs. search needs) (λ c κs. search needs) (λ c κs. search needs) (λ c. search needs) (λ c κs. search needs)
+    (λ c. search needs) (λ c κs. search needs) (λ c κs. search needs) (λ c κs. search needs) (λ c κs. search needs) (λ c. search needs) (λ c κs. search needs)
     (λ c. simp (and-assoc, and-true) (cc)))

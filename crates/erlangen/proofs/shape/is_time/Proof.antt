@@ -1,7 +1,6 @@
 -- Each part of the test is a call, in the order of the piece.
-use mathlib.Core.Bool.{and-assoc, and-true}
+use Rattle.cond.proofs.Kit.{and-assoc, and-true, needs}
 use Rattle.forms.specs.Places.{shape}
-use borrow.Author.Needs.{needs}
 use Rattle.erlangen.proofs.shape.is_time.Statement.{statement}
 use Rattle.erlangen.proofs.shape.is_time.Tie as tie
 

@@ -1,6 +1,6 @@
 -- The stores are those of the piece, place by place.
 use borrow.Author.Needs.{needs}
-use Rattle.layout.specs.Stores.{stores}
+use Rattle.places.specs.Stores.{stores}
 use Rattle.erlangen.proofs.writer.store_date.Statement.{statement}
 use Rattle.erlangen.proofs.writer.store_date.Tie as tie
 
@@ -9,6 +9,5 @@ unfolding stores
 store-date-spec =
     tie.close
     (tie.spec
-    (λ c κs. search needs) (λ c κs. search needs) (λ c κs. search needs) (λ c κs. search needs) (λ c κs. search needs) (λ c. search needs)
-    (λ c κs. search needs) (λ c κs. search needs) (λ c κs. search needs) (λ c. search needs) (λ c κs. search needs) (λ c. search needs)
+    (λ c κs. search needs) (λ c κs. search needs) (λ c κs. search needs) (λ c κs. search needs) (λ c κs. search needs) (λ c. search needs) (λ c κs. search needs) (λ c κs. search needs) (λ c. search needs) (λ c κs. search needs) (λ c. search needs)
     (λ c. cc))

@@ -1,5 +1,5 @@
 -- The stores are those of the piece, place by place.
-use Rattle.layout.specs.Stores.{stores}
+use Rattle.places.specs.Stores.{stores}
 use borrow.Author.Needs.{needs}
 use Rattle.erlangen.proofs.writer.store_leap_second.Statement.{statement}
 use Rattle.erlangen.proofs.writer.store_leap_second.Tie as tie
@@ -9,4 +9,5 @@ unfolding stores
 store-leap-second-spec =
     tie.close
     (tie.spec
-    (λ c κs. search needs) (λ c κs. search needs) (λ c κs. search needs) (λ c. search needs) (λ c. cc))
+    (λ c κs. search needs) (λ c. search needs) (λ c κs. search needs) (λ c κs. search needs) (λ c. search needs)
+    (λ c. cc))

@@ -1,6 +1,5 @@
 -- The stores are those of the piece, place by place; the letter is that of the sign.
-use Rattle.layout.specs.Stores.{stores}
-use Rattle.erlangen.proofs.Signs.{west-told}
+use Rattle.places.specs.Stores.{stores}
 use borrow.Author.Needs.{needs}
 use Rattle.erlangen.proofs.writer.store_longitude.Statement.{statement}
 use Rattle.erlangen.proofs.writer.store_longitude.Tie as tie
@@ -10,5 +9,5 @@ unfolding stores
 store-longitude-spec =
     tie.close
     (tie.spec
-    (λ c κs. search needs) (λ c κs. search needs) (λ c κs. search needs) (λ c κs. search needs) (λ c. search needs)
-    (λ c. cc (west-told (c .before .before .before .before .before .before .before .before .before .before .before .args .r .position))))
+    (λ c κs. search needs) (λ c κs. search needs) (λ c. search needs) (λ c κs. search needs) (λ c κs. search needs) (λ c. search needs)
+    (λ c. cc))

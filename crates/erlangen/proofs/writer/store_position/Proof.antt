@@ -1,8 +1,7 @@
 -- The position is stored in its three pieces.
-use denote.Ref.{now}
-use Rattle.forms.specs.Told.{told}
-use Rattle.erlangen.proofs.Row.{stores-position}
-use borrow.Author.Needs.{needs}
+use Rattle.cond.proofs.Kit.{needs, now}
+use Rattle.forms.specs.Encode.{encode}
+use Rattle.erlangen.proofs.Pieces.{stores-position}
 use Rattle.erlangen.proofs.writer.store_position.Statement.{statement}
 use Rattle.erlangen.proofs.writer.store_position.Tie as tie
 
@@ -13,4 +12,4 @@ store-position-spec =
     (λ c κs. search needs) (λ c κs. search needs) (λ c κs. search needs) (λ c. search needs)
     (λ c.
     let a = c .before .before .before .before .before .before .before .before .before .before .before .before .before .args in
-    cc (stores-position (told (a .r)) (now (a .out)))))
+    cc (stores-position (encode (a .r)) (now (a .out)))))

@@ -1,36 +1,34 @@
 -- The answer is the form's, and what is stored are its bytes; every field has a letter for yes and no, so 9 is never given.
-use mathlib.Core.Bool.{true}
-use mathlib.Core.Path.{refl}
-use borrow.Author.Needs.{needs}
-use denote.Ref.{now}
-use Rattle.forms.specs.Forms.{layoutOf}
-use Rattle.forms.specs.Serial.{erlangen, erlangenRow}
+use Rattle.spelling.specs.Bytes.{letters}
+use Rattle.cond.proofs.Kit.{needs, now, refl, true}
+use Rattle.forms.specs.Forms.{formKindOf}
+use Rattle.forms.specs.Serial.{erlangen, erlangenLayout}
 use Rattle.forms.proofs.Instances.{serial-sound}
-use Rattle.layout.specs.Stores.{stores}
+use Rattle.places.specs.Stores.{stores}
 use Rattle.forms.specs.Places.{has}
 use Rattle.forms.proofs.Limits.{bound}
-use Rattle.layout.proofs.Wrote.{allSpeak, isSpoken, refused, row-worded, storable, wrote}
+use Rattle.places.proofs.Wrote.{alwaysHasWords, alwaysExpressible, refused, layout-has-words, storable, wrote}
 use Rattle.erlangen.proofs.writer.write.Statement.{statement}
 use Rattle.erlangen.proofs.writer.write.Tie as tie
 
 returns : tie.Need-returns
-unfolding isSpoken allSpeak has bound layoutOf stores
+unfolding alwaysExpressible alwaysHasWords has bound letters formKindOf stores
 returns c =
     let k = c .before .before .before .before .before in
     let a = k .before .before .before .before .before .before .args in
-    wrote erlangen (a .r) (now (a .out)) true (row-worded erlangenRow refl (a .r)) (k .answer .given .0 .0) (cc) (serial-sound 3 erlangen refl) _
+    wrote erlangen (a .r) (now (a .out)) true (layout-has-words erlangenLayout refl (a .r)) (k .answer .given .0 .0) (cc) (serial-sound 3 erlangen refl) _
     (c .before .before .store .ensures)
 
 pub write-spec : {M : Type 1} → statement M
-unfolding isSpoken allSpeak has bound
+unfolding alwaysExpressible alwaysHasWords has bound letters
 write-spec =
     tie.close
     (tie.spec
     (λ c κs. search needs) (λ c κs. search needs) (λ c κs. search needs) (λ c. search needs)
     (λ c κs.
     let a = c .before .before .before .before .before .before .before .before .args in
-    storable erlangen (a .r) (now (a .out)) true (row-worded erlangenRow refl (a .r)) (c .before .before .answer .given .0 .0) (cc))
+    storable erlangen (a .r) (now (a .out)) true (layout-has-words erlangenLayout refl (a .r)) (c .before .before .answer .given .0 .0) (cc))
     (λ c. search needs) (λ c. search needs) returns
     (λ c.
     let a = c .before .before .before .before .before .before .before .args in
-    refused erlangen (a .r) (now (a .out)) true (row-worded erlangenRow refl (a .r)) (c .before .answer2 .given .0 .0) (cc)))
+    refused erlangen (a .r) (now (a .out)) true (layout-has-words erlangenLayout refl (a .r)) (c .before .answer2 .given .0 .0) (cc)))

@@ -1,13 +1,8 @@
 -- The number in the field is one of 32 bits, so the calls see it as it is.
-use mathlib.Core.Path.{sym, ap, _∙_}
-use lib.IntN.{natAbs}
-use mir.Facts.{toZ-ofZ}
-use mir.Syntax.{w32}
-use mir.Val.{SFits}
+use Rattle.cond.proofs.Kit.{_∙_, ap, natAbs, needs, SFits, sym, toZ-ofZ, w32}
 use Rattle.record.specs.Sign.{isNegative}
-use Rattle.forms.specs.Fields.Offset.{minutesTold}
+use Rattle.forms.specs.Fields.Offset.{encodeMinutes}
 use Rattle.fields.specs.Signs.{isMinus}
-use borrow.Author.Needs.{needs}
 use Rattle.fields.proofs.offset.parts.Statement.{statement}
 use Rattle.fields.proofs.offset.parts.Tie as tie
 
@@ -16,7 +11,7 @@ returns-2 c =
     let there = c .before .before .before .offset .given in
     let fits : SFits w32 (there .0 .0) = search needs in (
       c .before .is-negative .ensures ∙ ap isNegative (toZ-ofZ fits) ∙ sym (ap isMinus (there .1)),
-      c .magnitude .ensures ∙ ap natAbs (toZ-ofZ fits) ∙ sym (ap minutesTold (there .1)),
+      c .magnitude .ensures ∙ ap natAbs (toZ-ofZ fits) ∙ sym (ap encodeMinutes (there .1)),
     )
 
 pub parts-spec : {M : Type 1} → statement M

@@ -1,7 +1,6 @@
 -- Each number names its kind; any other names none.
-use borrow.Author.Tests.{ne-eqb}
+use Rattle.cond.proofs.Kit.{ne-eqb}
 use Rattle.flat_record.specs.Decode.{kindOf}
-use borrow.Author.Needs.{needs}
 use Rattle.flat_record.proofs.decode.kind_of.Statement.{statement}
 use Rattle.flat_record.proofs.decode.kind_of.Tie as tie
 

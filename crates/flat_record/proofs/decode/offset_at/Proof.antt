@@ -1,10 +1,6 @@
 -- Each kind is a case of its own; the sign of an offset that is there fits.
-use mathlib.Core.Path.{sym, _∙_}
-use mir.Facts.{toZ-ofZ}
-use mir.Syntax.{w32}
-use mir.Val.{SFits}
+use Rattle.cond.proofs.Kit.{_∙_, needs, SFits, sym, toZ-ofZ, w32}
 use Rattle.flat_record.proofs.Flat.{offset-there}
-use borrow.Author.Needs.{needs}
 use Rattle.flat_record.proofs.decode.offset_at.Statement.{statement}
 use Rattle.flat_record.proofs.decode.offset_at.Tie as tie
 

@@ -1,11 +1,6 @@
 -- Each kind is a case of its own; the signs of a position that is there fit.
-use mathlib.Core.Path.{sym, _∙_}
-use denote.Ref.{now}
-use mir.Facts.{toZ-ofZ}
-use mir.Syntax.{w32}
-use mir.Val.{SFits}
+use Rattle.cond.proofs.Kit.{_∙_, needs, now, SFits, sym, toZ-ofZ, w32}
 use Rattle.flat_record.proofs.Flat.{position-there, signs-fit}
-use borrow.Author.Needs.{needs}
 use Rattle.flat_record.proofs.decode.position_at.Statement.{statement}
 use Rattle.flat_record.proofs.decode.position_at.Tie as tie
 

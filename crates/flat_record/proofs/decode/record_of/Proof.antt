@@ -1,9 +1,7 @@
 -- Each answer is that of the tests before it; numbers that passed them are a record.
-use mathlib.Core.Path.{sym, _∙_}
-use borrow.Author.Tests.{eq-eqb, ne-eqb}
+use Rattle.cond.proofs.Kit.{_∙_, eq-eqb, ne-eqb, needs, sym}
 use Rattle.flat_record.proofs.Flat.{flat-fits}
 use Rattle.flat_record.specs.Decode.{recordOf}
-use borrow.Author.Needs.{needs}
 use Rattle.flat_record.proofs.decode.record_of.Statement.{statement}
 use Rattle.flat_record.proofs.decode.record_of.Tie as tie
 

@@ -1,12 +1,6 @@
 -- What is still to be stored makes of the numbers as they are what all of n makes of the numbers at entry.
-use mathlib.Core.Path.{_≡_, _∙_, refl, sym}
-use Prim.Native.Nat.{_≤_, _-_, _+_}
-use native.Mathlib.Nat.{add-zero}
-use lib.ListN.{length, drop, length-set}
-use lib.Seq.{sets}
+use Rattle.cond.proofs.Kit.{_+_, _-_, _∙_, _≡_, _≤_, add-zero, arith, drop, length, length-set, needs, refl, sets, sym}
 use Rattle.spelling.proofs.Stores.{sets-step, sets-end}
-use borrow.Author.Needs.{needs}
-use native.Mathlib.Omega.{arith}
 use Rattle.flat_record.proofs.encode.put_numbers.Statement.{statement}
 use Rattle.flat_record.proofs.encode.put_numbers.Tie as tie
 

@@ -1,7 +1,6 @@
 -- The two halves are stored one behind the other.
-use denote.Ref.{now}
+use Rattle.cond.proofs.Kit.{needs, now}
 use Rattle.flat_record.proofs.Put.{all-stored, no-room}
-use borrow.Author.Needs.{needs}
 use Rattle.flat_record.proofs.encode.put_record.Statement.{statement}
 use Rattle.flat_record.proofs.encode.put_record.Tie as tie
 

@@ -1,13 +1,14 @@
--- The branches are the cases of the definition.
-use Rattle.frame.proofs.Fields.{no-half, one-half, other-half}
-use borrow.Author.Needs.{needs}
+-- The tests are those of the definition.
+use Rattle.cond.proofs.Kit.{eq-eqb, ne-eqb, needs}
+use Rattle.forms.specs.Fields.Offset.{halfHourOf}
 use Rattle.frame.proofs.rows.half_hour_of.Statement.{statement}
 use Rattle.frame.proofs.rows.half_hour_of.Tie as tie
 
 pub half-hour-of-spec : {M : Type 1} → statement M
+unfolding halfHourOf
 half-hour-of-spec =
     tie.close
     (tie.spec
-    (λ c κs. search needs) (λ c. no-half _ _ (c .before .minutes-of .ensures) (c .if1 .taken))
-    (λ c. one-half _ _ (c .before .before .minutes-of .ensures) (c .before .if1 .left) (c .if2 .taken))
-    (λ c. other-half _ _ (c .before .before .minutes-of .ensures) (c .before .if1 .left) (c .if2 .left)))
+    (λ c κs. search needs) (λ c. simp (← c .before .minutes-of .ensures, eq-eqb _ 0 (c .if1 .taken)))
+    (λ c. simp (← c .before .before .minutes-of .ensures, ne-eqb _ 0 (c .before .if1 .left), eq-eqb _ 30 (c .if2 .taken)))
+    (λ c. simp (← c .before .before .minutes-of .ensures, ne-eqb _ 0 (c .before .if1 .left), ne-eqb _ 30 (c .if2 .left))))

@@ -1,14 +1,7 @@
 -- The loop's invariant: the rows passed are stored from the head on, ten elements each.
-use mathlib.Core.Path.{_≡_, refl, _∙_, ap}
-use Prim.Native.Nat.{_-_, _*_, _≤_, _<_}
-use mathlib.Core.List.{[]}
-use denote.Ref.{now}
-use lib.ListN.{length, getD, take}
-use lib.Seq.{length-sets, sets}
+use Rattle.cond.proofs.Kit.{_*_, _-_, _∙_, _<_, _≡_, _≤_, ap, arith, length, length-sets, needs, now, refl, sets, sets-eq, take, take-length}
 use Rattle.frame.specs.Tens.{joined}
-use Rattle.frame.proofs.Elements.{joined-all, next-length, next-stored}
-use borrow.Author.Needs.{needs}
-use native.Mathlib.Omega.{arith}
+use Rattle.frame.proofs.Elements.{next-length, next-stored}
 use Rattle.frame.proofs.store.put_rows.Statement.{statement}
 use Rattle.frame.proofs.store.put_rows.Tie as tie
 
@@ -20,23 +13,25 @@ abbrev μ-loop : tie.MeasureT-loop
 
 loop-again : tie.Need-loop-again Inv-loop μ-loop
 loop-again c =
-    let b = c .before .before .before .before .before .before in
-    let a = b .before .before .args in
-    let r = c .before .before .put-row .ensures in
+    let b = c .before .before .before .before .before .before .loop in
+    let a = c .before .before .before .before .before .before .before .before .args in
     let l : length (a .t1) ≡ 10 = search needs in
-    let inside : b .loop .i < length (a .t1) = omega arith in (
+    let inside : b .i < length (a .t1) = omega arith in
+    let stored = c .before .before .put-row .ensures in (
       omega arith,
-      ap length (r .0) ∙ length-sets (b .loop .out) (b .loop .i * 10) (getD (a .t1) (b .loop .i) []) ∙ b .loop .inv .1,
-      next-length (a .t1) (b .loop .i) inside (b .loop .inv .2) (r .1),
-      next-stored (a .t1) (b .loop .i) inside (b .loop .inv .2) (now (a .out)) (b .loop .out) _ (b .loop .inv .3) (r .0),
+      ap length (stored .0) ∙ simp length-sets (b .inv .1),
+      next-length (a .t1) (b .i) inside (b .inv .2) (stored .1),
+      stored .0 ∙ rw (b .inv .3) (next-stored (a .t1) (b .i) inside (b .inv .2) (now (a .out))),
     )
 
 returns : tie.Need-returns Inv-loop μ-loop
 returns c =
-    let a = c .before .loop in
-    let b = c .before .before .before .args in
-    let l : length (b .t1) ≡ 10 = search needs in
-    a .inv .3 ∙ ap (sets (now (b .out)) 0) (joined-all (b .t1) (a .i) (omega arith))
+    let b = c .before .loop in
+    let a = c .before .before .before .args in
+    let l : length (a .t1) ≡ 10 = search needs in
+    let e : b .i ≡ length (a .t1) = omega arith in
+    let long : length (joined (a .t1)) ≡ 100 = rw (e, take-length, l) at (b .inv .2) in
+    (rw (e, take-length) at (b .inv .3)) ∙ sets-eq (joined (a .t1)) (now (a .out)) 0 (omega arith) ∙ rw long
 
 pub put-rows-spec : {M : Type 1} → statement M
 unfolding joined

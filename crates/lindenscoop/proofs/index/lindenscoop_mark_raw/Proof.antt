@@ -1,7 +1,5 @@
 -- The answer is the number of the listener's marking, and the marks are those that it left.
-use mathlib.Core.Path.{_∙_, ap}
-use borrow.Author.Needs.{needs}
-use denote.Ref.{now}
+use Rattle.cond.proofs.Kit.{_∙_, ap, needs, now}
 use Rattle.record.specs.Answers.{writeNumber}
 use Rattle.record.specs.declared.answer.Writing.{Writing}
 use Rattle.forms.specs.Form.{leftOf}

@@ -1,10 +1,8 @@
 -- Buffers that are too short are refused; else the next state is stored, and the record if one is handed out.
-use mathlib.Core.Path.{_∙_, ap}
-use denote.Ref.{now}
+use Rattle.cond.proofs.Kit.{_∙_, ap, needs, now}
 use Rattle.listener.specs.Listening.{answerTo, nextOf}
 use Rattle.lindenscoop.proofs.Room.{answered, enough, no-answer, rooms, short}
 use Rattle.lindenscoop.proofs.Small.{next-fits, of-bytes}
-use borrow.Author.Needs.{needs}
 use Rattle.lindenscoop.proofs.listener_raw.lindenscoop_feed_raw.Statement.{statement}
 use Rattle.lindenscoop.proofs.listener_raw.lindenscoop_feed_raw.Tie as tie
 
@@ -12,7 +10,7 @@ listener-of-requires : tie.Need-listener-of-requires
 listener-of-requires c κs =
     let f = c .before in
     let a = f .before .before .before .before .before .before .args in
-    rooms (now (a .state)) (now (a .row)) (enough (f .before .both-fit .ensures) (f .if1 .left)) .0
+    rooms (now (a .state)) (now (a .numbers)) (enough (f .before .both-fit .ensures) (f .if1 .left)) .0
 
 put-state-requires : tie.Need-put-state-requires
 put-state-requires c κs =
@@ -20,13 +18,13 @@ put-state-requires c κs =
     let a = f .before .before .before .before .before .before .args in
     let next = c .before .before .feed .ensures .next ∙ ap (λ l. nextOf l (a .byte)) (c .before .before .before .listener-of .ensures) in
     let fits = next-fits _ (a .byte) (of-bytes (now (a .state)) (f .before .before .before .before .before .slice-known .given)) in
-    (rooms (now (a .state)) (now (a .row)) (enough (f .before .both-fit .ensures) (f .if1 .left)) .0, rw next fits)
+    (rooms (now (a .state)) (now (a .numbers)) (enough (f .before .both-fit .ensures) (f .if1 .left)) .0, rw next fits)
 
 put-heard-requires : tie.Need-put-heard-requires
 put-heard-requires c κs =
     let f = c .before .before .before .before .before .before .before .before .before in
     let a = f .before .before .before .before .before .before .args in
-    rooms (now (a .state)) (now (a .row)) (enough (f .before .both-fit .ensures) (f .if1 .left)) .1
+    rooms (now (a .state)) (now (a .numbers)) (enough (f .before .both-fit .ensures) (f .if1 .left)) .1
 
 returns-2 : tie.Need-returns-2
 returns-2 c =

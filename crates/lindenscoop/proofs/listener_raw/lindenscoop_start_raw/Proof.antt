@@ -1,11 +1,9 @@
 -- A buffer that is too short is refused; else the new listener is stored.
-use mathlib.Core.Path.{_∙_, ap}
-use denote.Ref.{now}
+use Rattle.cond.proofs.Kit.{_∙_, ap, needs, now}
 use Rattle.listener.specs.Listening.{startNumber}
 use Rattle.lindenscoop.specs.Buffers.{held}
 use Rattle.lindenscoop.proofs.Room.{enough, room, short}
 use Rattle.lindenscoop.proofs.Small.{start-fits}
-use borrow.Author.Needs.{needs}
 use Rattle.lindenscoop.proofs.listener_raw.lindenscoop_start_raw.Statement.{statement}
 use Rattle.lindenscoop.proofs.listener_raw.lindenscoop_start_raw.Tie as tie
 

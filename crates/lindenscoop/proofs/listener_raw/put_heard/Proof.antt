@@ -1,10 +1,8 @@
 -- The record that was handed out is stored; nothing else is.
-use mathlib.Core.Path.{sym, ap, _∙_}
-use denote.Ref.{now}
+use Rattle.cond.proofs.Kit.{_∙_, ap, needs, now, sym}
 use Rattle.listener.specs.Listening.{answerOf}
 use Rattle.lindenscoop.specs.Listener.{answerNumbers}
 use Rattle.lindenscoop.proofs.Room.{shown-by}
-use borrow.Author.Needs.{needs}
 use Rattle.lindenscoop.proofs.listener_raw.put_heard.Statement.{statement}
 use Rattle.lindenscoop.proofs.listener_raw.put_heard.Tie as tie
 
@@ -12,7 +10,7 @@ returns : tie.Need-returns
 returns c =
     let a = c .before .before .before .before .before .before .before .before in
     let heard = c .before .before .before .before .before .heard .given .1 in
-    shown-by (c .before .before .put-record .ensures) (a .pre) ∙ sym (ap (λ h. answerNumbers (answerOf h) (now (a .args .row))) heard)
+    shown-by (c .before .before .put-record .ensures) (a .pre) ∙ sym (ap (λ h. answerNumbers (answerOf h) (now (a .args .numbers))) heard)
 
 pub put-heard-spec : {M : Type 1} → statement M
 put-heard-spec =

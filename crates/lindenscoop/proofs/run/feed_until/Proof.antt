@@ -1,11 +1,7 @@
 -- The run over all bytes is the run over those that are left, behind those that were answered by nothing.
-use mathlib.Core.Path.{_≡_, sym, _∙_, ap}
-use Prim.Native.Nat.{_-_, _≤_}
-use lib.ListN.{length, drop}
+use Rattle.cond.proofs.Kit.{_-_, _∙_, _≡_, _≤_, ap, arith, drop, length, needs, sym}
 use Rattle.lindenscoop.specs.Run.{isAnswer, runOf}
 use Rattle.lindenscoop.proofs.Runs.{answered, behind, behind-none, ended, goes-on}
-use borrow.Author.Needs.{needs}
-use native.Mathlib.Omega.{arith}
 use Rattle.lindenscoop.proofs.run.feed_until.Statement.{statement}
 use Rattle.lindenscoop.proofs.run.feed_until.Tie as tie
 
@@ -19,8 +15,8 @@ returns : tie.Need-returns Inv-loop μ-loop
 returns c =
     let q = c .before .before .before .before .before .before .loop in
     let fed = c .before .before .before .feed .ensures in
-    let told = sym (ap isAnswer (fed .answer)) ∙ sym (c .before .is-answer .ensures) ∙ c .if1 .taken in
-    answered _ (q .listener) _ (q .i) (q .inv .1) (omega arith) told _ (fed .answer) _ (fed .next)
+    let encode = sym (ap isAnswer (fed .answer)) ∙ sym (c .before .is-answer .ensures) ∙ c .if1 .taken in
+    answered _ (q .listener) _ (q .i) (q .inv .1) (omega arith) encode _ (fed .answer) _ (fed .next)
 
 loop-again : tie.Need-loop-again Inv-loop μ-loop
 loop-again c =

@@ -1,10 +1,8 @@
 -- A buffer that is too short is refused; else the place and the record are those of the search.
-use mathlib.Core.Path.{_∙_, ap}
-use denote.Ref.{now}
+use Rattle.cond.proofs.Kit.{_∙_, ap, needs, now}
 use Rattle.search.specs.Answer.{findingNumber, findingPlace, findingRecord}
 use Rattle.lindenscoop.specs.Buffers.{shown}
 use Rattle.lindenscoop.proofs.Room.{enough, short, shown-by}
-use borrow.Author.Needs.{needs}
 use Rattle.lindenscoop.proofs.search_raw.lindenscoop_search_raw.Statement.{statement}
 use Rattle.lindenscoop.proofs.search_raw.lindenscoop_search_raw.Tie as tie
 
@@ -18,7 +16,7 @@ returns-2 c =
     record {
       number = rw t (c .number .ensures ∙ ap findingNumber found);
       place = rw t (p .before .before .before .place .ensures ∙ ap findingPlace found);
-      numbers = rw t (shown-by (p .put-record .ensures) t ∙ ap (λ x. shown x (now (a .row))) (p .before .before .«record» .ensures ∙ ap findingRecord found));
+      numbers = rw t (shown-by (p .put-record .ensures) t ∙ ap (λ x. shown x (now (a .numbers))) (p .before .before .«record» .ensures ∙ ap findingRecord found));
     }
 
 pub lindenscoop-search-raw-spec : {M : Type 1} → statement M

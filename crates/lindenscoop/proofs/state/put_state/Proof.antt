@@ -1,10 +1,7 @@
 -- The ring and the four numbers are stored one behind the other.
-use mathlib.Core.Path.{sym, ap, _∙_}
-use denote.Ref.{now}
-use lib.ListN.{length}
-use lib.Seq.{sets}
+use Rattle.cond.proofs.Kit.{_∙_, ap, length, needs, now, sym}
+use Rattle.spelling.specs.Stored.{stored}
 use Rattle.lindenscoop.proofs.Heads.{state-laid}
-use borrow.Author.Needs.{needs}
 use Rattle.lindenscoop.proofs.state.put_state.Statement.{statement}
 use Rattle.lindenscoop.proofs.state.put_state.Tie as tie
 
@@ -18,7 +15,7 @@ returns c =
     let ring = bytes .before .before .before .before .before .before .before .ring-in .ensures in
     let a = bytes .before .before .before .before .before .before .before .before .before in
     let out = now (a .args .out) in
-    let first = bytes .put-bytes .ensures ∙ ap (sets out 0) (ring .0) in
+    let first = bytes .put-bytes .ensures ∙ ap (stored out 0) (ring .0) in
     state-laid (a .args .l) out (sym (ap length (ring .0)) ∙ ring .1) (a .pre .0) first (at .put-byte .ensures) (kept .put-byte2 .ensures)
     (distance .put-byte3 .ensures) (form .put-byte4 .ensures)
 

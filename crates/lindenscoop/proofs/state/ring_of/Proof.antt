@@ -1,12 +1,7 @@
 -- Each turn copies one byte more of the head.
-use mathlib.Core.Path.{_≡_, sym, _∙_}
-use Prim.Native.Nat.{_-_, _≤_}
-use lib.ListN.{length, take, length-set}
-use lib.Seq.{take-all}
+use Rattle.cond.proofs.Kit.{_-_, _∙_, _≡_, _≤_, arith, length, length-set, needs, sym, take, take-all}
 use Rattle.lindenscoop.specs.State.{ringSize}
 use Rattle.lindenscoop.proofs.Heads.{one-more}
-use borrow.Author.Needs.{needs}
-use native.Mathlib.Omega.{arith}
 use Rattle.lindenscoop.proofs.state.ring_of.Statement.{statement}
 use Rattle.lindenscoop.proofs.state.ring_of.Tie as tie
 

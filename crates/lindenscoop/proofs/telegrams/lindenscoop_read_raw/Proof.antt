@@ -1,10 +1,8 @@
 -- A buffer that is too short is refused; else the record is that of the reader.
-use mathlib.Core.Path.{_∙_, ap}
-use denote.Ref.{now}
+use Rattle.cond.proofs.Kit.{_∙_, ap, needs, now}
 use Rattle.record.specs.Answers.{readNumber, readRecord}
 use Rattle.lindenscoop.specs.Buffers.{shown}
 use Rattle.lindenscoop.proofs.Room.{enough, short, shown-by}
-use borrow.Author.Needs.{needs}
 use Rattle.lindenscoop.proofs.telegrams.lindenscoop_read_raw.Statement.{statement}
 use Rattle.lindenscoop.proofs.telegrams.lindenscoop_read_raw.Tie as tie
 
@@ -17,7 +15,7 @@ returns-2 c =
     let read = p .before .before .before .read .ensures in
     record {
       number = rw t (c .number .ensures ∙ ap readNumber read);
-      numbers = rw t (shown-by (p .put-record .ensures) t ∙ ap (λ x. shown x (now (a .row))) (p .before .before .«record» .ensures ∙ ap readRecord read));
+      numbers = rw t (shown-by (p .put-record .ensures) t ∙ ap (λ x. shown x (now (a .numbers))) (p .before .before .«record» .ensures ∙ ap readRecord read));
     }
 
 pub lindenscoop-read-raw-spec : {M : Type 1} → statement M

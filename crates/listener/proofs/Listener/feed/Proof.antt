@@ -1,8 +1,5 @@
 -- A state that refusal 11 names is returned as it is; in any other the byte goes into the ring, and the step follows.
-use mathlib.Core.Path.{_≡_, sym, _∙_, ap}
-use Prim.Native.Nat.{ℕ, _≤_}
-use borrow.Author.Needs.{needs}
-use lib.ListN.{length, length-set}
+use Rattle.cond.proofs.Kit.{_∙_, _≡_, _≤_, ap, length, length-set, needs, sym, ℕ}
 use Rattle.forms.specs.Valid.{lengthOf}
 use Rattle.serial.specs.Shape.{longest, shapeOf}
 use Rattle.serial.specs.declared.Shape.{Shape}

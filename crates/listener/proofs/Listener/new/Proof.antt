@@ -1,6 +1,5 @@
 -- A form of length 0 is none; any other starts with no bytes and the distance n.
-use mathlib.Core.Path.{_≡_, sym, _∙_}
-use borrow.Author.Needs.{needs}
+use Rattle.cond.proofs.Kit.{_∙_, needs, sym}
 use Rattle.serial.proofs.Lengths.{not-serial, some-serial}
 use Rattle.listener.specs.Listening.{startedOf}
 use Rattle.listener.proofs.Listener.new.Statement.{statement}

@@ -1,11 +1,6 @@
 -- Each turn stores the mark of one byte and leaves the state that the byte left; at the end every byte has its mark.
-use mathlib.Core.Path.{_≡_, refl, sym, _∙_}
-use Prim.Native.Nat.{_-_, _≤_}
-use borrow.Author.Needs.{needs}
-use native.Mathlib.Omega.{arith}
-use denote.Ref.{now}
-use lib.ListN.{length, length-set}
-use lib.Seq.{sets}
+use Rattle.cond.proofs.Kit.{_-_, _∙_, _≡_, _≤_, arith, length, length-set, needs, now, refl, sets, sym}
+use Rattle.spelling.proofs.Stored.{stored-in}
 use Rattle.serial.proofs.Lengths.{not-serial, some-serial}
 use Rattle.listener.specs.Listening.{hears}
 use Rattle.listener.specs.Marks.{marksOf}
@@ -24,11 +19,11 @@ loop-again : tie.Need-loop-again Inv-loop μ-loop
 loop-again c =
     let q = c .before .before .before .before .before .before .before .before .before .loop in
     let fed = c .before .before .before .before .before .before .feed .ensures in
-    let stored = c .before .before .before .put-byte .ensures in
-    let told = c .before .before .before .before .mark-of .ensures in (
+    let stored = c .before .before .before .put-byte .ensures ∙ stored-in (q .marks) (q .i) _ (omega arith) in
+    let marked = c .before .before .before .before .mark-of .ensures in (
       omega arith,
       rw (stored, length-set) (q .inv .1),
-      q .inv .2 ∙ mark-step (q .marks) (q .listener) _ (q .i) (omega arith) ∙ rw (stored, told, fed .answer, fed .next),
+      q .inv .2 ∙ mark-step (q .marks) (q .listener) _ (q .i) (omega arith) ∙ rw (stored, marked, fed .answer, fed .next),
     )
 
 returns-3 : tie.Need-returns-3 Inv-loop μ-loop

@@ -1,9 +1,5 @@
--- Each turn lays one byte more of the ring into the row.
-use mathlib.Core.Path.{_≡_}
-use Prim.Native.Nat.{_-_, _≤_}
-use borrow.Author.Needs.{needs}
-use native.Mathlib.Omega.{arith}
-use lib.ListN.{length, take, length-set}
+-- Each turn lays one byte more of the ring into the layout.
+use Rattle.cond.proofs.Kit.{_-_, _≡_, _≤_, arith, length, length-set, needs, take}
 use Rattle.serial.specs.Shape.{longest}
 use Rattle.listener.specs.Ring.{oldestFirst}
 use Rattle.listener.proofs.Rings.{one-more}

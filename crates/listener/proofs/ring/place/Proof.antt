@@ -1,6 +1,5 @@
 -- A number below 66 is its own place, and any other names place 0.
-use borrow.Author.Needs.{needs}
-use borrow.Author.Tests.{le-ltb, lt-ltb}
+use Rattle.cond.proofs.Kit.{le-ltb, lt-ltb, needs}
 use Rattle.listener.proofs.ring.place.Statement.{statement}
 use Rattle.listener.proofs.ring.place.Tie as tie
 

@@ -1,6 +1,5 @@
 -- A number below 66 is its own place, and one of the second round is 66 too high.
-use borrow.Author.Needs.{needs}
-use borrow.Author.Tests.{le-ltb, lt-ltb}
+use Rattle.cond.proofs.Kit.{le-ltb, lt-ltb, needs}
 use Rattle.listener.proofs.ring.wrap.Statement.{statement}
 use Rattle.listener.proofs.ring.wrap.Tie as tie
 

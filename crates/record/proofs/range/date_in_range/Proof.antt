@@ -1,6 +1,5 @@
 -- A full date is tested by the calendar, a day of year by its two bounds.
-use mathlib.Core.Path.{sym, ap, _∙_}
-use borrow.Author.Needs.{needs}
+use Rattle.cond.proofs.Kit.{_∙_, ap, needs, sym}
 use Rattle.record.specs.Record.{dateInRange}
 use Rattle.record.proofs.range.date_in_range.Statement.{statement}
 use Rattle.record.proofs.range.date_in_range.Tie as tie

@@ -1,11 +1,5 @@
 -- The minutes are a number of 32 bits, so their magnitude is tested against the bound of the definition.
-use mathlib.Core.Path.{sym, ap, _∙_}
-use lib.Dec.{leb}
-use lib.IntN.{natAbs}
-use mir.Syntax.{w32}
-use mir.Val.{SFits}
-use mir.Facts.{toZ-ofZ}
-use borrow.Author.Needs.{needs}
+use Rattle.cond.proofs.Kit.{_∙_, ap, leb, natAbs, needs, SFits, sym, toZ-ofZ, w32}
 use Rattle.record.specs.Record.{offsetInRange}
 use Rattle.record.proofs.range.offset_in_range.Statement.{statement}
 use Rattle.record.proofs.range.offset_in_range.Tie as tie

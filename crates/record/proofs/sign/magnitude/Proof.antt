@@ -1,14 +1,7 @@
 -- 64 bits hold the opposite of every number of 32 bits. So the difference is the opposite of z, whose magnitude is
 -- that of z.
-use mathlib.Core.Path.{_≡_, sym, ap, subst, _∙_}
-use native.Mathlib.Omega.{arith}
-use borrow.Author.Needs.{needs}
-use lib.Dec.{T}
-use lib.IntN.{ℤ, pos, natAbs, negℤ, _-ℤ_, +ℤ-idl}
-use lib.Signed.{nonNeg, natAbs-le}
-use mir.Syntax.{w32, w64}
-use mir.Val.{Fits, SFits, toZ, ofZ}
-use mir.Facts.{toZ-ofZ, sfits-widen, fits-natAbs}
+use Rattle.cond.proofs.Kit.{+ℤ-idl, _-ℤ_, _∙_, _≡_, ap, arith, Fits, fits-natAbs, natAbs, natAbs-le, needs, negℤ, nonNeg, ofZ, pos, SFits, sfits-widen}
+use Rattle.cond.proofs.Kit.{subst, sym, T, toZ, toZ-ofZ, w32, w64, ℤ}
 use Rattle.record.proofs.Signs.{test-negative, mag-opposite, natAbs-opposite, negative-opposite, not-negative}
 use Rattle.record.proofs.sign.magnitude.Statement.{statement}
 use Rattle.record.proofs.sign.magnitude.Tie as tie

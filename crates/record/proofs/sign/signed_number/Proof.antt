@@ -1,15 +1,7 @@
--- n is at most the largest number of an i32, so its bits read as n and the opposite of n fits.
-use mathlib.Core.Path.{_≡_, sym, ap, subst, _∙_}
-use Prim.Native.Nat.{ℕ, _≤_}
-use native.Mathlib.Omega.{arith}
-use borrow.Author.Needs.{needs}
-use borrow.Author.Tests.{lt-ltb}
-use lib.IntN.{pos, negℤ, _-ℤ_, +ℤ-idl}
-use mir.Syntax.{w32}
-use mir.Val.{SFits, toZ, ofZ}
-use mir.Facts.{toZ-ofZ}
-use Rattle.record.specs.Sign.{signed}
-use Rattle.record.proofs.Signs.{mag-opposite, opposite-signed}
+-- A magnitude up to the largest number of an i32 has bits that read as it, and its opposite fits; any larger one is answered with 0.
+use Rattle.cond.proofs.Kit.{+ℤ-idl, _-ℤ_, _∙_, _≡_, _≤_, ap, arith, lt-leb, lt-ltb, needs, negℤ, ofZ, pos, SFits, subst, sym, toZ, toZ-ofZ, w32, ℕ}
+use Rattle.record.specs.Sign.{signed, signedNumber}
+use Rattle.record.proofs.Signs.{mag-opposite, opposite-signed, signed-small}
 use Rattle.record.proofs.sign.signed_number.Statement.{statement}
 use Rattle.record.proofs.sign.signed_number.Tie as tie
 
@@ -23,18 +15,23 @@ module _ (n : ℕ) (h : n ≤ 2147483647) where
   opposite-fits : SFits w32 (negℤ (pos n))
   opposite-fits = omega (arith, mag-opposite (pos n))
 
-returns : tie.Need-returns
-returns c =
-    let n = c .before .args .n in
-    let h = c .before .pre in
-    ap (λ x. toZ w32 (ofZ w32 x)) (difference n h) ∙ toZ-ofZ (opposite-fits n h) ∙ opposite-signed n ∙ ap (λ b. signed b n) (sym (c .if1 .taken))
+returns-2 : tie.Need-returns-2
+returns-2 c =
+    let n = c .before .before .args .n in
+    let h : n ≤ 2147483647 = omega arith in
+    ap (λ x. toZ w32 (ofZ w32 x)) (difference n h) ∙ toZ-ofZ (opposite-fits n h) ∙ opposite-signed n ∙ ap (λ b. signed b n) (sym (c .if2 .taken))
+    ∙ sym (signed-small _ n h)
 
 pub signed-number-spec : {M : Type 1} → statement M
 signed-number-spec =
     tie.close
     (tie.spec
-    (λ c. search needs) (λ c. subst (SFits w32) (sym (difference _ (c .before .pre))) (opposite-fits _ (c .before .pre)))
-    (λ c. search needs) returns
+    (λ c. unfold signedNumber in simp (lt-leb (c .before .args .n) 2147483647 (omega arith))) (λ c. search needs)
     (λ c.
-    let n = c .before .args .n in
-    plain n (c .before .pre) ∙ ap (λ b. signed b n) (sym (c .if1 .left))))
+    let h : c .before .before .args .n ≤ 2147483647 = omega arith in
+    subst (SFits w32) (sym (difference _ h)) (opposite-fits _ h))
+    (λ c. search needs) returns-2
+    (λ c.
+    let n = c .before .before .args .n in
+    let h : n ≤ 2147483647 = omega arith in
+    plain n h ∙ ap (λ b. signed b n) (sym (c .if2 .left)) ∙ sym (signed-small _ n h)))

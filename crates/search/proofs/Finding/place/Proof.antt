@@ -1,6 +1,5 @@
 -- The place that was found is returned, and a refusal has place 0.
-use mathlib.Core.Path.{sym, ap}
-use borrow.Author.Needs.{needs}
+use Rattle.cond.proofs.Kit.{ap, needs, sym}
 use Rattle.search.specs.Answer.{findingPlace}
 use Rattle.search.proofs.Finding.place.Statement.{statement}
 use Rattle.search.proofs.Finding.place.Tie as tie

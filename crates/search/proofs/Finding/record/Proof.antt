@@ -1,6 +1,5 @@
 -- The record that was found is returned, and a refusal has the empty record.
-use mathlib.Core.Path.{sym, ap, _∙_}
-use borrow.Author.Needs.{needs}
+use Rattle.cond.proofs.Kit.{_∙_, ap, needs, sym}
 use Rattle.search.specs.Answer.{findingRecord}
 use Rattle.search.proofs.Finding.record.Statement.{statement}
 use Rattle.search.proofs.Finding.record.Tie as tie

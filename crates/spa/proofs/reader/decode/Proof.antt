@@ -1,18 +1,13 @@
--- Each number is a call, and the row carries a full date and thousandths alone.
+-- Each number is a call, and the layout carries a full date and thousandths alone.
 use borrow.Author.Needs.{needs}
 use Rattle.forms.specs.Carries.{carriesOf}
-use Rattle.forms.specs.Fields.Channel.{channelFrom}
-use Rattle.forms.specs.Fields.Date.{dateFrom}
-use Rattle.forms.specs.Fields.Flag.{flagFrom}
-use Rattle.forms.specs.Fields.Fraction.{fractionFrom}
-use Rattle.forms.specs.Fields.Offset.{minutesFrom, offsetFrom}
-use Rattle.forms.specs.Fields.Position.{positionFrom}
+use Rattle.forms.specs.Decode.{decodeChannel, decodeDate, decodeFlag, decodeFraction, decodeMinutes, decodeOffset, decodePosition}
 use Rattle.forms.specs.Places.{has, values}
 use Rattle.spa.proofs.reader.decode.Statement.{statement}
 use Rattle.spa.proofs.reader.decode.Tie as tie
 
 returns : tie.Need-returns
-unfolding carriesOf has values dateFrom fractionFrom channelFrom flagFrom offsetFrom positionFrom minutesFrom
+unfolding carriesOf has values decodeDate decodeFraction decodeChannel decodeFlag decodeOffset decodePosition decodeMinutes
 returns c =
     let k = c .before .before .before .before in
     simp (k .before .before .before .number-at .ensures .0, k .before .before .number-at2 .ensures .0)

@@ -1,6 +1,5 @@
--- Each part of the test is a call, in the order of the row's piece.
-use mathlib.Core.Bool.{and-assoc, and-true}
-use borrow.Author.Needs.{needs}
+-- Each part of the test is a call, in the order of the layout's piece.
+use Rattle.cond.proofs.Kit.{and-assoc, and-true, needs}
 use Rattle.forms.specs.Places.{shape}
 use Rattle.spa.proofs.reader.has_time.Statement.{statement}
 use Rattle.spa.proofs.reader.has_time.Tie as tie

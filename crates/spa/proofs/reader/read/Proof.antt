@@ -1,12 +1,10 @@
 -- Each refusal is the form's after the tests that led to it; an SPA string tells its record and its checksum alone.
-use mathlib.Core.Path.{refl, sym, _∙_}
-use borrow.Author.Needs.{needs}
-use borrow.Author.Tests.{not-false, not-true}
+use Rattle.cond.proofs.Kit.{_∙_, needs, not-false, not-true, refl, sym}
 use Rattle.forms.specs.Places.{has}
 use Rattle.forms.specs.Serial.{spa}
 use Rattle.forms.proofs.Slots.{every}
-use Rattle.forms.proofs.Tests.{wrong-byte, wrong-length, wrong-start, wrong-sum}
-use Rattle.layout.proofs.Validated.{reads-plain}
+use Rattle.forms.proofs.Tests.{wrong-byte, wrong-length, wrong-start, wrong-checksum}
+use Rattle.places.proofs.Validated.{reads-plain}
 use Rattle.spa.proofs.reader.read.Statement.{statement}
 use Rattle.spa.proofs.reader.read.Tie as tie
 
@@ -14,7 +12,7 @@ returns-4 : tie.Need-returns-4
 returns-4 c =
     let k = c .before .before .before in
     let h = sym (k .has-shape .ensures) ∙ not-false _ (c .before .before .if3 .left) in
-    sym (wrong-sum spa _ (k .before .before .before .if1 .left) h (sym (c .before .sum-holds .ensures) ∙ not-true _ (c .if4 .taken)))
+    sym (wrong-checksum spa _ (k .before .before .before .if1 .left) h (sym (c .before .checksum-holds .ensures) ∙ not-true _ (c .if4 .taken)))
 
 returns-5 : tie.Need-returns-5
 unfolding has every
@@ -22,7 +20,7 @@ returns-5 c =
     let j = c .before .before .before in
     let k = j .before .before in
     let h = sym (k .has-shape .ensures) ∙ not-false _ (j .before .if3 .left) in
-    let q = sym (j .sum-holds .ensures) ∙ not-false _ (c .before .before .if4 .left) in
+    let q = sym (j .checksum-holds .ensures) ∙ not-false _ (c .before .before .if4 .left) in
     c .validate .ensures ∙ reads-plain spa _ (k .before .before .before .if1 .left) h q refl refl _ (c .before .decode .ensures)
 
 pub read-spec : {M : Type 1} → statement M

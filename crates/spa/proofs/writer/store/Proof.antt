@@ -1,8 +1,6 @@
 -- The end, stored behind the front, completes the string.
-use mathlib.Core.Path.{_∙_, ap}
-use borrow.Author.Needs.{needs}
-use denote.Ref.{now}
-use Rattle.spa.proofs.Summed.{end-stored}
+use Rattle.cond.proofs.Kit.{_∙_, ap, needs, now}
+use Rattle.spa.proofs.Checked.{end-stored}
 use Rattle.spa.specs.Stored.{endStored}
 use Rattle.spa.proofs.writer.store.Statement.{statement}
 use Rattle.spa.proofs.writer.store.Tie as tie

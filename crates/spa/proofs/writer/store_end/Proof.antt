@@ -4,4 +4,7 @@ use Rattle.spa.proofs.writer.store_end.Statement.{statement}
 use Rattle.spa.proofs.writer.store_end.Tie as tie
 
 pub store-end-spec : {M : Type 1} → statement M
-store-end-spec = tie.close (tie.spec (λ c κs. search needs) (λ c κs. search needs) (λ c κs. search needs) (λ c. search needs) (λ c. cc))
+store-end-spec = tie.close (tie.spec (λ c κs. search needs) (λ c κs. search needs) (λ c κs. search needs) (λ c. search needs)
+    (λ c.
+    let d = c .before .before .before .before .before .before in
+    rw (c .before .before .put-byte .ensures, d .put-hex .ensures, d .before .before .checksum-of .ensures)))

@@ -1,6 +1,6 @@
--- The front of the row stored in two pieces.
+-- The front of the layout stored in two pieces.
 use borrow.Author.Needs.{needs}
-use Rattle.layout.specs.Stores.{stores}
+use Rattle.places.specs.Stores.{stores}
 use Rattle.spa.proofs.writer.store_front.Statement.{statement}
 use Rattle.spa.proofs.writer.store_front.Tie as tie
 

@@ -1,6 +1,6 @@
--- The stores are those of the row's piece, place by place.
+-- The stores are those of the layout's piece, place by place.
 use borrow.Author.Needs.{needs}
-use Rattle.layout.specs.Stores.{stores}
+use Rattle.places.specs.Stores.{stores}
 use Rattle.spa.proofs.writer.store_time.Statement.{statement}
 use Rattle.spa.proofs.writer.store_time.Tie as tie
 

@@ -1,31 +1,28 @@
 -- The answer is the form's, and what is stored are its bytes; an SPA string has no words, so 9 is never given.
-use mathlib.Core.Bool.{true}
-use mathlib.Core.Path.{refl}
-use borrow.Author.Needs.{needs}
-use denote.Ref.{now}
-use Rattle.forms.specs.Serial.{spa, spaRow}
+use Rattle.cond.proofs.Kit.{needs, now, refl, true}
+use Rattle.forms.specs.Serial.{spa, spaLayout}
 use Rattle.forms.specs.Places.{has}
-use Rattle.layout.proofs.Wrote.{allSpeak, isSpoken, refused, row-worded, storable, wrote-bytes}
+use Rattle.places.proofs.Wrote.{alwaysHasWords, alwaysExpressible, refused, layout-has-words, storable, wrote-bytes}
 use Rattle.spa.proofs.writer.write.Statement.{statement}
 use Rattle.spa.proofs.writer.write.Tie as tie
 
 returns : tie.Need-returns
-unfolding isSpoken allSpeak has
+unfolding alwaysExpressible alwaysHasWords has
 returns c =
     let k = c .before .before .before .before .before in
     let a = k .before .before .before .before .before .before .args in
-    wrote-bytes spa (a .r) (now (a .out)) true (row-worded spaRow refl (a .r)) (k .answer .given .0 .0) (cc) _ (c .before .before .store .ensures)
+    wrote-bytes spa (a .r) (now (a .out)) true (layout-has-words spaLayout refl (a .r)) (k .answer .given .0 .0) (cc) _ (c .before .before .store .ensures)
 
 pub write-spec : {M : Type 1} → statement M
-unfolding isSpoken allSpeak has
+unfolding alwaysExpressible alwaysHasWords has
 write-spec =
     tie.close
     (tie.spec
     (λ c κs. search needs) (λ c κs. search needs) (λ c κs. search needs) (λ c. search needs)
     (λ c κs.
     let a = c .before .before .before .before .before .before .before .before .args in
-    storable spa (a .r) (now (a .out)) true (row-worded spaRow refl (a .r)) (c .before .before .answer .given .0 .0) (cc))
+    storable spa (a .r) (now (a .out)) true (layout-has-words spaLayout refl (a .r)) (c .before .before .answer .given .0 .0) (cc))
     (λ c. search needs) (λ c. search needs) returns
     (λ c.
     let a = c .before .before .before .before .before .before .before .args in
-    refused spa (a .r) (now (a .out)) true (row-worded spaRow refl (a .r)) (c .before .answer2 .given .0 .0) (cc)))
+    refused spa (a .r) (now (a .out)) true (layout-has-words spaLayout refl (a .r)) (c .before .answer2 .given .0 .0) (cc)))

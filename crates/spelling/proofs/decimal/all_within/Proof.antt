@@ -1,11 +1,7 @@
 -- The bytes not passed yet decide: each one passed met the test, and one that fails ends the loop.
-use mathlib.Core.Path.{_≡_, refl}
-use Prim.Native.Nat.{_≤_, _-_}
-use lib.ListN.{length, drop}
+use Rattle.cond.proofs.Kit.{_-_, _≡_, _≤_, arith, drop, length, needs, refl}
 use Rattle.spelling.specs.Bytes.{allAre, isWithin}
 use Rattle.spelling.proofs.Steps.{all-step, all-fails, all-end}
-use borrow.Author.Needs.{needs}
-use native.Mathlib.Omega.{arith}
 use Rattle.spelling.proofs.decimal.all_within.Statement.{statement}
 use Rattle.spelling.proofs.decimal.all_within.Tie as tie
 

@@ -1,6 +1,5 @@
 -- A record that was read is returned, and a refusal has the empty record.
-use mathlib.Core.Path.{sym, ap, _∙_}
-use borrow.Author.Needs.{needs}
+use Rattle.cond.proofs.Kit.{_∙_, ap, needs, sym}
 use Rattle.record.specs.Answers.{readRecord}
 use Rattle.record.proofs.answer.Reading.record.Statement.{statement}
 use Rattle.record.proofs.answer.Reading.record.Tie as tie

@@ -1,0 +1,116 @@
+-- A digit over 9 makes its place tell a number beyond all others, which is outside its range in each of the five places.
+use Rattle.cond.proofs.Kit.{[], _<_, _∙_, _∷_, _≡_, _≤_, ap, arith, Bool, eqb, eqb-true, false, false≢true, leb-true, length, List, ltb, ltb-true, not, refl, sym, true, ℕ}
+use Rattle.cond.specs.Pick.{pick}
+use Rattle.cond.proofs.Tests.{both}
+use Rattle.calendar.specs.Answers.{dateOfDay}
+use Rattle.calendar.specs.Calendar.{isDate}
+use Rattle.calendar.specs.declared.MonthDay.{MonthDay}
+use Rattle.calendar.specs.declared.MonthDay.the-variants as monthDay
+use Rattle.calendar.proofs.DayOfYear.{found-day}
+use Rattle.calendar.proofs.Ranges.{date-range, ordinal-range}
+use Rattle.spelling.specs.Bytes.{allAre, digit, gap, groupsLimit, groupsWidth}
+use Rattle.record.specs.Answers.{readNumber}
+use Rattle.record.specs.Record.{dateInRange, inRange, timeInRange}
+use Rattle.record.specs.declared.answer.Reading.{Reading}
+use Rattle.record.specs.declared.answer.Reading.the-variants as reading
+use Rattle.record.specs.declared.refusal.Refusal.the-variants as refusal
+use Rattle.forms.specs.All.{isOneOf}
+use Rattle.forms.specs.BcdDigits.{BcdDigits, bcdDigits, hasDigitOver9}
+use Rattle.forms.specs.Carries.{carriesOf}
+use Rattle.forms.specs.Checksum.{checksumsHold}
+use Rattle.forms.specs.Decode.{decode}
+use Rattle.forms.specs.Fields.Date.{dateOn, decodeDate}
+use Rattle.forms.specs.Form.{carries, rangeTests, ranges, readBy, readLayout, validated, valuesBy}
+use Rattle.forms.specs.Forms.{formKindOf, readAs, readForm}
+use Rattle.forms.specs.Frame.{frame}
+use Rattle.forms.specs.Places.{has, shape, values}
+use Rattle.forms.specs.Slots.{hour, minute, ordinal, second, year}
+use Rattle.forms.proofs.Accepted.{read-validated}
+use Rattle.forms.proofs.All.{test-at}
+use Rattle.forms.proofs.Allowed.{append-all}
+use Rattle.forms.proofs.GroupDigits.{decimal, digitsAt, isDecimal}
+
+-- a year and a day of it that are a date
+dated : (y n : ℕ) → dateInRange (dateOn y (dateOfDay y n)) ≡ true → (y < 100) × (n ≤ 366)
+unfolding dateInRange isDate
+dated y n h = go (dateOfDay y n) refl h
+  where
+    go : (a : MonthDay) → dateOfDay y n ≡ a → dateInRange (dateOn y a) ≡ true → (y < 100) × (n ≤ 366)
+    go (monthDay.On m d) e h =
+        let f = found-day y n m d e in
+        let c = date-range y m d (f .0) in
+        (c .years, omega (arith, ordinal-range y m d c))
+    go monthDay.NoSuchDate e h = absurd (false≢true h)
+
+module _ (s : List ℕ) (l : length s ≡ 100) (h : ranges (carries frame) (valuesBy frame s) ≡ true) where
+  inside : inRange (decode (carries frame) (valuesBy frame s)) ≡ true
+  unfolding ranges
+  inside = test-at (rangeTests (carries frame) (valuesBy frame s)) h 0
+
+  -- the five numbers that are told in BCD
+  record Numbers : Type 0 where
+    hours : valuesBy frame s hour < 24
+    minutes : valuesBy frame s minute < 60
+    seconds : valuesBy frame s second ≤ 60
+    years : valuesBy frame s year < 100
+    days : valuesBy frame s ordinal ≤ 366
+
+  numbers : Numbers
+  unfolding inRange timeInRange decodeDate carriesOf has
+  numbers =
+      let v = valuesBy frame s in
+      let a = both (timeInRange (v hour) (v minute) (v second)) _ inside in
+      let b = both (ltb (v hour) 24) _ (a .0) in
+      let c = both (ltb (v minute) 60) _ (b .1) in
+      let d = dated (v year) (v ordinal) (both (dateInRange (dateOn (v year) (dateOfDay (v year) (v ordinal)))) _ (a .1) .0) in
+      record {
+        hours = ltb-true (v hour) 24 (b .0);
+        minutes = ltb-true (v minute) 60 (c .0);
+        seconds = leb-true (v second) 60 (c .1);
+        years = d .0;
+        days = d .1;
+      }
+
+  all-decimal : allAre isDecimal (bcdDigits s) ≡ true
+  unfolding digitsAt values groupsWidth groupsLimit
+  all-decimal =
+      let n = numbers in
+      let v = valuesBy frame s in
+      let seven = digit 4 ∷ gap 0 ∷ digit 3 ∷ [] in
+      append-all isDecimal (digitsAt 1 seven s) _ (decimal s 1 seven (v second) (omega arith) refl (omega (arith, n .seconds)))
+      (append-all isDecimal (digitsAt 10 seven s) _ (decimal s 10 seven (v minute) (omega arith) refl (omega (arith, n .minutes)))
+      (append-all isDecimal (digitsAt 20 (digit 4 ∷ gap 0 ∷ digit 2 ∷ []) s) _
+      (decimal s 20 (digit 4 ∷ gap 0 ∷ digit 2 ∷ []) (v hour) (omega arith) refl (omega (arith, n .hours)))
+      (append-all isDecimal (digitsAt 30 (digit 4 ∷ gap 0 ∷ digit 4 ∷ gap 2 ∷ digit 2 ∷ []) s) _
+      (decimal s 30 (digit 4 ∷ gap 0 ∷ digit 4 ∷ gap 2 ∷ digit 2 ∷ []) (v ordinal) (omega arith) refl (omega (arith, n .days)))
+      (decimal s 50 (digit 4 ∷ gap 0 ∷ digit 4 ∷ []) (v year) (omega arith) refl (omega (arith, n .years))))))
+
+-- so a digit over 9 is out of range
+over-ranges : (s : List ℕ) → length s ≡ 100 → hasDigitOver9 s ≡ true → ranges (carries frame) (valuesBy frame s) ≡ false
+over-ranges s l h = go (ranges (carries frame) (valuesBy frame s)) refl
+  where
+    go : (b : Bool) → ranges (carries frame) (valuesBy frame s) ≡ b → b ≡ false
+    go false e = refl
+    go true e = absurd (false≢true (ap not (sym (all-decimal s l e)) ∙ h))
+
+over-four : (s : List ℕ) → length s ≡ 100 → hasDigitOver9 s ≡ true → readNumber (validated (carries frame) (valuesBy frame s)) ≡ 4
+unfolding validated
+over-four s l h = simp (over-ranges s l h)
+
+-- the tests before
+after : (a b c : Bool) (x : Reading) → (a ≡ true → readNumber x ≡ 4)
+    → isOneOf (2 ∷ 3 ∷ 6 ∷ []) (readNumber (pick a (pick b (pick c x (reading.Refused refusal.WrongChecksum)) (reading.Refused refusal.WrongByte)) (reading.Refused refusal.WrongLength))) ≡ false
+    → readNumber (pick a (pick b (pick c x (reading.Refused refusal.WrongChecksum)) (reading.Refused refusal.WrongByte)) (reading.Refused refusal.WrongLength)) ≡ 4
+after true true true x h n = h refl
+after true true false x h n = absurd (false≢true (sym n))
+after true false c x h n = absurd (false≢true (sym n))
+after false b c x h n = absurd (false≢true (sym n))
+
+pub bcd-digits : BcdDigits
+unfolding readForm formKindOf readAs readBy readLayout
+bcd-digits =
+    record {
+      four = λ s h. after (eqb (length s) 100) (shape (frame .layout) 0 s) (checksumsHold (frame .checksums) s (valuesBy frame s)) _
+          (λ e. over-four s (eqb-true (length s) 100 e) h);
+      shaped-four = λ s h l p q. ap readNumber (read-validated frame s l p q) ∙ over-four s l h;
+    }

@@ -1,0 +1,58 @@
+-- What each slot tells of a record.
+use Prim.Native.Nat.{_+_, _*_, _/_, _%_}
+use lib.Dec.{eqb}
+use Rattle.cond.specs.Pick.{oneIf, pick}
+use Rattle.calendar.specs.Calendar.{weekdayOf}
+use Rattle.record.specs.Record.{isYes}
+use Rattle.record.specs.declared.Record.{Record}
+use Rattle.forms.specs.Fields.Channel.{encodeChannel}
+use Rattle.forms.specs.Fields.Date.{encodeDay, encodeMonth, encodeOrdinal, encodeYear}
+use Rattle.forms.specs.Fields.Fraction.{encodeTenMillionths, encodeThousandths}
+use Rattle.forms.specs.Fields.Offset.{halfHourOf, encodeMinus, encodeMinutes}
+use Rattle.forms.specs.Fields.Position.{encodeAltitude, encodeLatitude, encodeLongitude, encodeSouth, encodeWest}
+use Rattle.forms.specs.Fields.Time.{secondsOfDay}
+use Rattle.forms.specs.Slots.{Values, altitude, change, channel, day, daySeconds, deletion, dsp, fix, halfHour, hour, latitudeDegrees, latitudePart}
+use Rattle.forms.specs.Slots.{leap, leapSecond, longitudeDegrees, longitudePart, lsp, minus, minute, month, notice, offsetHours, offsetMinutes}
+use Rattle.forms.specs.Slots.{ordinal, quality, second, south, checksum, summer, sync, tenMillionth, thousandth, utc, weekday, west, year, zone}
+
+-- the values of a record; "weekday and the leap letter are not fields: they follow from the date and from second 60"
+abbrev pub encode : Record → Values
+encode r hour = r .hour
+encode r minute = r .minute
+encode r second = r .second
+encode r year = encodeYear (r .date)
+encode r month = encodeMonth (r .date)
+encode r day = encodeDay (r .date)
+encode r ordinal = encodeOrdinal (r .date)
+encode r weekday = weekdayOf (encodeYear (r .date)) (encodeMonth (r .date)) (encodeDay (r .date))
+encode r leapSecond = oneIf (eqb (r .second) 60)
+encode r thousandth = encodeThousandths (r .fraction)
+encode r tenMillionth = encodeTenMillionths (r .fraction)
+encode r channel = encodeChannel (r .channel)
+encode r sync = oneIf (isYes (r .sync))
+-- "TFOM is 0 for sync yes, 15 for no"
+encode r quality = pick (isYes (r .sync)) 0 15
+encode r fix = oneIf (isYes (r .fix))
+encode r zone = oneIf (isYes (r .utc)) * 2 + oneIf (isYes (r .summer))
+encode r utc = oneIf (isYes (r .utc))
+encode r summer = oneIf (isYes (r .summer))
+encode r notice = oneIf (isYes (r .change)) * 2 + oneIf (isYes (r .leap))
+encode r change = oneIf (isYes (r .change))
+encode r leap = oneIf (isYes (r .leap))
+encode r minus = encodeMinus (r .offset)
+encode r offsetHours = encodeMinutes (r .offset) / 60
+encode r offsetMinutes = encodeMinutes (r .offset) % 60
+encode r halfHour = halfHourOf (encodeMinutes (r .offset) % 60)
+encode r south = encodeSouth (r .position)
+encode r latitudeDegrees = encodeLatitude (r .position) / 10000
+encode r latitudePart = encodeLatitude (r .position) % 10000
+encode r west = encodeWest (r .position)
+encode r longitudeDegrees = encodeLongitude (r .position) / 10000
+encode r longitudePart = encodeLongitude (r .position) % 10000
+encode r altitude = encodeAltitude (r .position)
+encode r dsp = oneIf (isYes (r .dsp))
+encode r lsp = oneIf (isYes (r .lsp))
+-- "Element 61 must be 0"
+encode r deletion = 0
+encode r daySeconds = secondsOfDay (r .hour) (r .minute) (r .second)
+encode r checksum = 0

@@ -1,0 +1,10 @@
+pub mod Part
+pub mod Numbers
+pub mod Letters
+pub mod Stored
+pub mod Weekday
+pub mod Tests
+pub mod Wrote
+pub mod Validated
+pub mod Chain
+pub mod Signed

@@ -1,0 +1,139 @@
+-- The last two tests of a reader over any form: on the record alone where the layout tells nothing besides, on the weekday too where
+-- it has a place for it.
+use Rattle.cond.proofs.Kit.{[], _&&_, _+_, _||_, _∙_, _∷_, _≡_, and-true, ap, Bool, eqb, eqb-true, false, false≢true, length, List, not, not-true, refl, sym, true, ℕ}
+use Rattle.cond.specs.Pick.{pick}
+use Rattle.calendar.specs.Calendar.{isDate, weekdayOf}
+use Rattle.record.specs.declared.Date.the-variants as dateIs
+use Rattle.record.specs.declared.Flag.the-variants as flagIs
+use Rattle.record.specs.declared.Record.{Record}
+use Rattle.record.specs.Record.{inRange, isYes, zoneAgrees}
+use Rattle.forms.specs.Carries.{carriesOf}
+use Rattle.forms.specs.Checksum.{checksumsHold}
+use Rattle.forms.specs.Fields.Date.{decodeDate, fullDate, hasDate, weekdayInRange, weekdayConsistent}
+use Rattle.forms.specs.Fields.Flag.{firstOfTwo, decodeFlag, noFlag, ownLetter, secondOfTwo}
+use Rattle.forms.specs.Fields.Sign.{signConsistent}
+use Rattle.forms.specs.Fields.Time.{leapConsistent, secondsConsistent}
+use Rattle.forms.specs.Form.{Form, carries, validated, numbersInRange, ranges, readBy, signsConsistent, consistent, valuesBy}
+use Rattle.forms.specs.Places.{Layout, has, isOf, shape, values, width}
+use Rattle.forms.specs.Slots.{Slot, Values, day, daySeconds, deletion, leapSecond, minus, month, offsetMinutes, quality, same, south, summer, utc, weekday, west, year, zone}
+use Rattle.forms.specs.Decode.{decode}
+use Rattle.forms.proofs.Accepted.{read-validated}
+use Rattle.forms.proofs.Slots.{every, every-slot, slots}
+use Rattle.places.specs.Validated.{verdict, verdictOn}
+use Rattle.places.specs.Weekday.{exists, fallsOn}
+use Rattle.places.proofs.Weekday.{date-exists}
+
+-- a slot without a place tells 0
+nowhere : (ps : Layout) (k : ℕ) (s : List ℕ) (f : Slot) → has ps f ≡ false → values ps k s f ≡ 0
+unfolding has values
+nowhere [] k s f h = refl
+nowhere (p ∷ ps) k s f h = go (isOf f p) _ h (nowhere ps (width p + k) s f)
+  where
+    go : (t : Bool) (x : ℕ) → (t || has ps f) ≡ false → (has ps f ≡ false → values ps (width p + k) s f ≡ 0)
+        → pick t x (values ps (width p + k) s f) ≡ 0
+    go true x e n = absurd (false≢true (sym e))
+    go false x e n = n e
+
+-- what a layout can tell beside its record and the weekday, and utc by a letter of its own
+abbrev beside : List Slot
+beside = leapSecond ∷ daySeconds ∷ minus ∷ south ∷ west ∷ utc ∷ offsetMinutes ∷ quality ∷ deletion ∷ []
+
+abbrev among : List Slot → Slot → Bool
+among [] f = false
+among (g ∷ gs) f = same f g || among gs f
+
+-- the layout has a place for none of them
+abbrev pub isLean : Layout → Bool
+isLean ps = every slots (λ f. not (among beside f && has ps f))
+
+-- one letter never tells both fields
+never-both : (z : ℕ) → not (isYes (pick (eqb z 2) flagIs.Yes flagIs.No) && isYes (pick (eqb z 1) flagIs.Yes flagIs.No)) ≡ true
+never-both z = go (eqb z 2) refl
+  where
+    go : (t : Bool) → eqb z 2 ≡ t → not (isYes (pick t flagIs.Yes flagIs.No) && isYes (pick (eqb z 1) flagIs.Yes flagIs.No)) ≡ true
+    go true e = rw (eqb-true z 2 e) refl
+    go false e = refl
+
+-- a date in range exists, so that it falls on a weekday where its weekday is that one
+on-date : (r : Record) (y m d n : ℕ) (x t : Bool) → r .date ≡ dateIs.Full y m d
+    → verdict (inRange r && x) (eqb n (weekdayOf y m d) && t) r ≡ verdict (inRange r && x) (fallsOn (r .date) n && t) r
+unfolding verdict
+on-date r y m d n x t e = go (inRange r) refl
+  where
+    go : (i : Bool) → inRange r ≡ i → verdict (i && x) (eqb n (weekdayOf y m d) && t) r ≡ verdict (i && x) (fallsOn (r .date) n && t) r
+    go false q = refl
+    go true q =
+        let there : isDate y m d ≡ true = sym (ap exists e) ∙ date-exists r (ap (hasDate fullDate) e) q in
+        simp (e, there)
+
+module _ (d : Form) (s : List ℕ) where
+  abbrev v : Values
+  v = valuesBy d s
+
+  abbrev decoded : Record
+  decoded = decode (carries d) v
+
+  -- what is told twice, but for the weekday
+  abbrev pub restConsistent : Bool
+  restConsistent = leapConsistent (carries d .leapSecond) v && (secondsConsistent (carries d .daySeconds) v && (signsConsistent (carries d .offset) v && zoneAgrees decoded))
+
+  pub zone-agrees : has (d .layout) utc ≡ false → zoneAgrees decoded ≡ true
+  unfolding zoneAgrees carriesOf decodeFlag
+  zone-agrees h = rw h (go (has (d .layout) zone))
+    where
+      go : (t : Bool)
+          → not (isYes (decodeFlag (pick t firstOfTwo noFlag) (v utc) (v zone)) && isYes (decodeFlag (pick t secondOfTwo (pick (has (d .layout) summer) ownLetter noFlag)) (v summer) (v zone)))
+          ≡ true
+      go true = never-both (v zone)
+      go false = refl
+
+  full-date : has (d .layout) month ≡ true → decoded .date ≡ dateIs.Full (v year) (v month) (v day)
+  unfolding carriesOf decodeDate
+  full-date h = simp h
+
+  pub validated-on : has (d .layout) weekday ≡ true → has (d .layout) month ≡ true
+      → verdictOn decoded (v weekday) (numbersInRange v) restConsistent ≡ validated (carries d) v
+  unfolding validated ranges consistent verdict carriesOf weekdayConsistent
+  validated-on w m = sym (simp w (on-date decoded (v year) (v month) (v day) (v weekday) _ restConsistent (full-date m)))
+
+  module _ (h : isLean (d .layout) ≡ true) where
+    lacking : (f : Slot) → among beside f ≡ true → has (d .layout) f ≡ false
+    lacking f m = not-true (has (d .layout) f) (simp m at (every-slot (λ f. not (among beside f && has (d .layout) f)) h f))
+
+    none : (f : Slot) → among beside f ≡ true → v f ≡ 0
+    none f m = nowhere (d .layout) 0 s f (lacking f m)
+
+    numbers-lean : numbersInRange v ≡ true
+    unfolding numbersInRange
+    numbers-lean = simp (none offsetMinutes refl, none quality refl, none deletion refl)
+
+    signs-lean : signsConsistent (carries d .offset) v ≡ true
+    unfolding signsConsistent signConsistent
+    signs-lean = simp (none minus refl, none south refl, none west refl)
+
+    rest-lean : restConsistent ≡ true
+    unfolding carriesOf leapConsistent secondsConsistent
+    rest-lean = simp (lacking leapSecond refl, lacking daySeconds refl, signs-lean) (zone-agrees (lacking utc refl))
+
+    validated-lean : has (d .layout) weekday ≡ true → has (d .layout) month ≡ true → verdictOn decoded (v weekday) true true ≡ validated (carries d) v
+    validated-lean w m =
+        ap (λ (t : Bool). verdictOn decoded (v weekday) t true) (sym numbers-lean)
+        ∙ ap (λ (t : Bool). verdictOn decoded (v weekday) (numbersInRange v) t) (sym rest-lean)
+        ∙ validated-on w m
+
+    validated-plain : has (d .layout) weekday ≡ false → verdict (inRange decoded) true decoded ≡ validated (carries d) v
+    unfolding validated ranges consistent verdict carriesOf weekdayConsistent weekdayInRange
+    validated-plain w = sym (simp (w, numbers-lean, rest-lean, and-true))
+
+-- the answer for a string of the right length, shape and checksum that decodes to r
+module _ (d : Form) (s : List ℕ) (l : length s ≡ d .size) (h : shape (d .layout) 0 s ≡ true) (q : checksumsHold (d .checksums) s (valuesBy d s) ≡ true) where
+  pub reads-plain : isLean (d .layout) ≡ true → has (d .layout) weekday ≡ false → (r : Record) → r ≡ decoded d s
+      → verdict (inRange r) true r ≡ readBy d s
+  reads-plain t w r e =
+      ap (λ (x : Record). verdict (inRange x) true x) e ∙ validated-plain d s t w ∙ sym (read-validated d s l h q)
+
+  pub reads-on : isLean (d .layout) ≡ true → has (d .layout) weekday ≡ true → has (d .layout) month ≡ true → (r : Record) (n : ℕ) → r ≡ decoded d s
+      → n ≡ valuesBy d s weekday → verdictOn r n true true ≡ readBy d s
+  reads-on t w m r n e f =
+      ap (λ (x : Record). verdictOn x n true true) e ∙ ap (λ (x : ℕ). verdictOn (decoded d s) x true true) f ∙ validated-lean d s t w m
+      ∙ sym (read-validated d s l h q)

@@ -1,0 +1,6 @@
+pub mod Request
+pub mod Carry
+pub mod Printed
+pub mod Piece
+pub mod Stream
+pub mod Summary

@@ -1,5 +1,0 @@
-pub mod Request
-pub mod Carry
-pub mod Printed
-pub mod Stream
-pub mod Summary
