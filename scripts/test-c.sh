@@ -1,6 +1,6 @@
 #!/bin/sh
-# The interface for C programs, tested: the header in C and C++, the example on logs, random calls under the sanitizers.
-# Needs `rt staticlib lindenscoop`. With REFERENCE=path of the reference program the expected CSVs are compared with it first.
+# The interface for C programs, tested: the header's names and functions in C and C++, the example on logs, random calls under the
+# sanitizers. Needs `rt staticlib lindenscoop`. With REFERENCE=path of the reference program the expected CSVs are compared with it first.
 set -eu
 cd "$(dirname "$0")/.."
 lib=target/staticlib/liblindenscoop.a
@@ -8,12 +8,36 @@ lib=target/staticlib/liblindenscoop.a
 include=bindings/c/include
 made=target/c
 mkdir -p "$made"
-warn='-Wall -Wextra -Werror -pedantic'
+warn='-Wall -Wextra -Wpedantic -Wconversion -Wsign-conversion -Wshadow -Werror'
+sane='-g -O1 -fsanitize=address,undefined -fno-sanitize-recover=all'
+cc=${CC:-cc} cxx=${CXX:-c++}
 
-printf '#include "lindenscoop.h"\nint main() { return 0; }\n' > "$made/header.cpp"
-${CXX:-c++} -std=c++11 $warn -I$include -c "$made/header.cpp" -o "$made/header.o"
+# Every exported function is declared, ends in _raw, and has one of the plain name over it.
+exported=$(nm -g --defined-only "$lib" | sed -n 's/^.* T //p' | sort)
+declared=$(sed -n 's/^LINDENSCOOP_NOT_NULL uint32_t \(lindenscoop_[a-z_]*\)(.*;$/\1/p' "$include/lindenscoop.h" | sort)
+[ -n "$exported" ] && [ "$exported" = "$declared" ] || { printf 'test-c: the library exports\n%s\nand the header declares\n%s\n' "$exported" "$declared" >&2; exit 1; }
+for name in $exported; do
+    plain=${name%_raw}
+    [ "$plain" != "$name" ] && grep -q "^static inline uint32_t $plain(" "$include/lindenscoop.h" \
+        || { echo "test-c: $name has no function over structs named without _raw" >&2; exit 1; }
+done
 
-${CC:-cc} -O2 -std=c99 $warn -I$include bindings/c/examples/heard_csv.c "$lib" -o "$made/heard_csv"
+# The oldest and the named standards of both languages.
+$cc -std=c99 $warn -fsyntax-only -I$include bindings/c/tests/fields.c
+$cxx -std=c++11 -x c++ $warn -Wold-style-cast -fsyntax-only -I$include bindings/c/tests/fields.c
+$cc -std=c11 $sane $warn -I$include bindings/c/tests/fields.c "$lib" -o "$made/fields_c"
+$cxx -std=c++17 $sane $warn -Wold-style-cast -I$include -x c++ bindings/c/tests/fields.c -x none "$lib" -o "$made/fields_cpp"
+"$made/fields_c"
+"$made/fields_cpp"
+
+# Whether a field is there must be looked at.
+printf '#include "lindenscoop.h"\nint main(void) { lindenscoop_record r = {0}; int32_t minutes = 0; lindenscoop_get_offset(&r, &minutes); return minutes; }\n' >"$made/unlooked.c"
+if $cc -std=c11 -Werror -I$include -c "$made/unlooked.c" -o "$made/unlooked.o" 2>"$made/unlooked.log" || ! grep -q 'unused' "$made/unlooked.log"; then
+    echo 'test-c: an answer of lindenscoop_get_offset that is not looked at is not warned of' >&2
+    exit 1
+fi
+
+$cc -O2 -std=c99 $warn -I$include bindings/c/examples/heard_csv.c "$lib" -o "$made/heard_csv"
 for form in 1 2 3 4 5 6 7; do
     log=tests/csv/form-$form
     if [ -n "${REFERENCE:-}" ]; then
@@ -22,8 +46,12 @@ for form in 1 2 3 4 5 6 7; do
     "$made/heard_csv" $form "$log.log" | cmp - "$log.csv"
     "$made/heard_csv" $form < "$log.log" | cmp - "$log.csv"
 done
+if [ -w /dev/full ] && "$made/heard_csv" 1 samples/standard.log >/dev/full 2>"$made/full.log"; then
+    echo 'test-c: heard_csv calls a full disk a success' >&2
+    exit 1
+fi
 
-${CC:-cc} -g -O1 -std=c99 $warn -fsanitize=address,undefined -fno-sanitize-recover=all -I$include bindings/c/tests/random_calls.c "$lib" -o "$made/random_calls"
+$cc -std=c11 $sane $warn -I$include bindings/c/tests/random_calls.c "$lib" -o "$made/random_calls"
 for seed in 1 2 3; do
     "$made/random_calls" $seed ${CALLS:-200000}
 done

@@ -1,14 +1,36 @@
 #!/bin/sh
-# The Rust crate: its tests with the examples of its documentation, and its example program on the logs whose CSV is known.
-# Needs `rt staticlib lindenscoop`.
+# The Rust crate: its tests with the examples of its documentation, its example program on the logs whose CSV is known, and what is said
+# where the library is missing. Needs `rt staticlib lindenscoop`.
 set -eu
 cd "$(dirname "$0")/.."
 cargo test --quiet --offline -p lindenscoop
 printed=$(mktemp)
-trap 'rm -f "$printed"' EXIT
-for form in 1 2 3 4 5 6 7; do
+empty=$(mktemp -d)
+trap 'rm -rf "$printed" "$empty"' EXIT
+form=0
+for name in standard capture erlangen spa racal sysplex computime; do
+    form=$((form + 1))
     log=tests/csv/form-$form
     cargo run --release --quiet --offline -p lindenscoop --example heard_csv -- "$form" "$log.log" >"$printed"
     cmp "$printed" "$log.csv"
+    cargo run --release --quiet --offline -p lindenscoop --example heard_csv -- "$name" "$log.log" >"$printed"
+    cmp "$printed" "$log.csv"
 done
-echo "rust: heard_csv agrees on 7 logs"
+echo "rust: heard_csv agrees on $form logs"
+
+# Runs a command that must fail and say this.
+fails_with() {
+    said=$1
+    shift
+    if "$@" >"$printed" 2>&1; then
+        echo "test-rust: no failure of: $*" >&2
+        exit 1
+    fi
+    grep -qF "$said" "$printed" || { echo "test-rust: \"$said\" is not said by: $*" >&2; cat "$printed" >&2; exit 1; }
+}
+example="cargo run --release --quiet --offline -p lindenscoop --example heard_csv --"
+fails_with 'refused with 1' $example frame samples/standard.log
+fails_with 'there is no form "radio"; the forms are standard (1), ' $example radio samples/standard.log
+fails_with "Make it with:  cd $(pwd -P) && rt staticlib lindenscoop" \
+    env LINDENSCOOP_LIB_DIR="$empty" CARGO_TARGET_DIR="$empty" cargo build --quiet --offline -p lindenscoop
+echo "rust: errors say what to do"

@@ -25,6 +25,13 @@ pub fn eight() -> u32
     next(seven())
 }
 """,
+    "crates/sample/proofs/next/Proof.antt": """use borrow.Author.Needs.{needs}
+use Rattle.sample.proofs.next.Statement.{statement}
+use Rattle.sample.proofs.next.Tie as tie
+
+pub next-spec : {M : Type 1} → statement M
+next-spec = tie.close (tie.spec (λ c. search needs) (λ c. search needs))
+""",
     "crates/sample/proofs/eight/Proof.antt": """use borrow.Author.Needs.{needs}
 use native.Mathlib.Omega.{arith}
 use Rattle.sample.proofs.eight.Statement.{statement}
@@ -53,5 +60,6 @@ SAMPLE_EDITS = (
     ("several", "old: r ≡ 8\nnew: r ≡ 9\nold:     7\nnew:     6", "add 'breaks: NAME'"),
     ("gone", "old: nine\nnew: ten", "stands 0 times"),
     ("named", "breaks: sample::next\nold: n + 1\nnew: n + 2", None),
+    ("overflow", "breaks: sample::next\nold: n + 1\nnew: n + 4294967295", "says nothing of the answer"),
     ("twice", "old: n + 1\nnew: n + 2", "stands 2 times"),
 )

@@ -18,6 +18,11 @@ SHAPES = (
         "a rewrite finds no place, which shows nothing false: change something else",
     ),
     (re.compile(r"met a bound of its own"), "a search met its bound, which shows nothing false: change something else"),
+    (
+        # Such an edit would be refused beside any contract.
+        re.compile(r"^`search`: no proof of `\(borrow\.Rule\.[^`]*\.asks "),
+        "a sum or an index no longer fits, which says nothing of the answer: change what is answered",
+    ),
 )
 
 

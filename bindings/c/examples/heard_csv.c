@@ -16,42 +16,45 @@ static const char header[] =
 
 static void print_flag(uint32_t flag)
 {
-    static const char *const words[] = {"", "no", "yes"};
-    printf(",%s", words[flag]);
+    printf(",%s", lindenscoop_is_yes(flag) ? "yes" : lindenscoop_is_no(flag) ? "no" : "");
 }
 
 static void print_time(const lindenscoop_record *r)
 {
-    if (r->date == LINDENSCOOP_FULL_DATE)
-        printf("20%02u-%02u-%02u", (unsigned)r->year, (unsigned)r->month, (unsigned)r->day);
+    uint32_t year, month, day, value, parts, channel;
+    if (lindenscoop_get_date(r, &year, &month, &day))
+        printf("%04u-%02u-%02u", (unsigned)year, (unsigned)month, (unsigned)day);
     printf(",");
-    if (r->date == LINDENSCOOP_DAY_OF_YEAR)
-        printf("%u", (unsigned)r->day_of_year);
+    if (lindenscoop_get_day_of_year(r, &day))
+        printf("%u", (unsigned)day);
     printf(",%02u:%02u:%02u,", (unsigned)r->hour, (unsigned)r->minute, (unsigned)r->second);
-    if (r->fraction == LINDENSCOOP_THOUSANDTHS)
-        printf("0.%03u", (unsigned)r->fraction_value);
-    if (r->fraction == LINDENSCOOP_TEN_MILLIONTHS)
-        printf("0.%07u", (unsigned)r->fraction_value);
+    if (lindenscoop_get_fraction(r, &value, &parts))
+        printf("0.%0*u", parts == 1000 ? 3 : 7, (unsigned)value);
     printf(",");
-    if (r->channel == LINDENSCOOP_PRESENT)
-        printf("%u", (unsigned)r->channel_number);
+    if (lindenscoop_get_channel(r, &channel))
+        printf("%u", (unsigned)channel);
 }
 
 /* Ten-thousandths of a degree as degrees. */
-static void print_degrees(uint32_t negative, uint32_t magnitude)
+static void print_degrees(int32_t value)
 {
-    printf(",%s%u.%04u", negative ? "-" : "", (unsigned)(magnitude / 10000), (unsigned)(magnitude % 10000));
+    uint32_t magnitude = lindenscoop_magnitude(value);
+    printf(",%s%u.%04u", value < 0 ? "-" : "", (unsigned)(magnitude / 10000), (unsigned)(magnitude % 10000));
 }
 
 static void print_place(const lindenscoop_record *r)
 {
+    int32_t minutes, latitude, longitude;
+    uint32_t altitude;
     printf(",");
-    if (r->offset == LINDENSCOOP_PRESENT)
-        printf("%c%02u:%02u", r->offset_negative ? '-' : '+', (unsigned)(r->offset_minutes / 60), (unsigned)(r->offset_minutes % 60));
-    if (r->position == LINDENSCOOP_PRESENT) {
-        print_degrees(r->south, r->latitude);
-        print_degrees(r->west, r->longitude);
-        printf(",%u", (unsigned)r->altitude);
+    if (lindenscoop_get_offset(r, &minutes)) {
+        uint32_t magnitude = lindenscoop_magnitude(minutes);
+        printf("%c%02u:%02u", minutes < 0 ? '-' : '+', (unsigned)(magnitude / 60), (unsigned)(magnitude % 60));
+    }
+    if (lindenscoop_get_position(r, &latitude, &longitude, &altitude)) {
+        print_degrees(latitude);
+        print_degrees(longitude);
+        printf(",%u", (unsigned)altitude);
     } else {
         printf(",,,");
     }
@@ -119,5 +122,9 @@ int main(int argc, char **argv)
         perror("heard_csv");
         return 1;
     }
-    return fflush(stdout) ? 1 : 0;
+    if (fflush(stdout) || ferror(stdout)) {
+        perror("heard_csv: standard output");
+        return 1;
+    }
+    return 0;
 }

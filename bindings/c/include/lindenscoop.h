@@ -4,10 +4,11 @@
  * Link with liblindenscoop.a. C99 and later, C++11 and later. No function allocates, keeps a pointer, or has
  * state of its own, so any number of threads may call at the same time on buffers of their own.
  *
- * There are two layers. The functions at the end, lindenscoop_read and so on, take the structs below and are what a C
- * program calls. They stand on the exported functions, lindenscoop_..._raw, whose contracts are proved; those take each
- * buffer as a pointer and a length, in elements. crates/lindenscoop/specs defines what they answer; the comments here say
- * it in words.
+ * There are two layers. The exported functions, lindenscoop_..._raw, whose contracts are proved, take each buffer as a pointer
+ * and a length, in elements; crates/lindenscoop/specs defines what they answer, the comments here say it in words. Over
+ * them stands what a C program calls: lindenscoop_read and so on, which take the structs below, and lindenscoop_get_offset and
+ * so on, which say whether a field of a record is there and hand out its value. A flag of no is stored as 1 and the number of
+ * an absent field as 0, so `if (record.sync)` and a bare `record.offset_minutes` would mislead.
  *
  * What the exported functions ask of their caller, and nothing else:
  *   - a pointer is not null, also where the length behind it is 0, and is aligned for its type;
@@ -33,6 +34,10 @@
 
 #include <stddef.h>
 #include <stdint.h>
+#include <string.h>
+#ifndef __cplusplus
+#include <stdbool.h>
+#endif
 
 #ifdef __cplusplus
 extern "C" {
@@ -133,44 +138,65 @@ typedef struct lindenscoop_listener {
     uint8_t bytes[LINDENSCOOP_LISTENER_BYTES];
 } lindenscoop_listener;
 
-/* The structs are the numbers and the bytes that the exported functions take. */
-typedef char lindenscoop_record_has_no_padding[sizeof(lindenscoop_record) == LINDENSCOOP_RECORD_NUMBERS * sizeof(uint32_t) ? 1 : -1];
-typedef char lindenscoop_listener_has_no_padding[sizeof(lindenscoop_listener) == LINDENSCOOP_LISTENER_BYTES ? 1 : -1];
+/* The structs are copied to and from the numbers and bytes that the exported functions take, so each field must stand where its
+   number does, and nothing between them. */
+#define LINDENSCOOP_ASSERT(name, test) typedef char lindenscoop_##name[(test) ? 1 : -1]
+#define LINDENSCOOP_AT(field, place) LINDENSCOOP_ASSERT(place_of_##field, offsetof(lindenscoop_record, field) == place * sizeof(uint32_t))
+LINDENSCOOP_ASSERT(record_has_no_padding, sizeof(lindenscoop_record) == LINDENSCOOP_RECORD_NUMBERS * sizeof(uint32_t));
+LINDENSCOOP_ASSERT(listener_has_no_padding, sizeof(lindenscoop_listener) == LINDENSCOOP_LISTENER_BYTES);
+LINDENSCOOP_AT(hour, 0); LINDENSCOOP_AT(minute, 1); LINDENSCOOP_AT(second, 2); LINDENSCOOP_AT(date, 3);
+LINDENSCOOP_AT(year, 4); LINDENSCOOP_AT(month, 5); LINDENSCOOP_AT(day, 6); LINDENSCOOP_AT(day_of_year, 7);
+LINDENSCOOP_AT(fraction, 8); LINDENSCOOP_AT(fraction_value, 9); LINDENSCOOP_AT(channel, 10);
+LINDENSCOOP_AT(channel_number, 11); LINDENSCOOP_AT(sync, 12); LINDENSCOOP_AT(fix, 13); LINDENSCOOP_AT(utc, 14);
+LINDENSCOOP_AT(summer, 15); LINDENSCOOP_AT(change, 16); LINDENSCOOP_AT(leap, 17); LINDENSCOOP_AT(offset, 18);
+LINDENSCOOP_AT(offset_negative, 19); LINDENSCOOP_AT(offset_minutes, 20); LINDENSCOOP_AT(position, 21);
+LINDENSCOOP_AT(south, 22); LINDENSCOOP_AT(latitude, 23); LINDENSCOOP_AT(west, 24); LINDENSCOOP_AT(longitude, 25);
+LINDENSCOOP_AT(altitude, 26); LINDENSCOOP_AT(dsp, 27); LINDENSCOOP_AT(lsp, 28);
+#undef LINDENSCOOP_AT
+#undef LINDENSCOOP_ASSERT
 
 /* ---- The exported functions. The numbers are those of a record in the order of the struct. ---- */
 
+/* A compiler warns of a null pointer, and its sanitizer of one that it cannot see. */
+#ifdef __GNUC__
+#define LINDENSCOOP_NOT_NULL __attribute__((nonnull))
+#else
+#define LINDENSCOOP_NOT_NULL
+#endif
+
 /* The record of a string, in the first 29 numbers; the empty record where the string is refused.
    10, before all else: numbers_length is below 29; nothing is stored. */
-uint32_t lindenscoop_read_raw(uint32_t form, const uint8_t *input, size_t input_length, uint32_t *numbers, size_t numbers_length);
+LINDENSCOOP_NOT_NULL uint32_t lindenscoop_read_raw(uint32_t form, const uint8_t *input, size_t input_length, uint32_t *numbers, size_t numbers_length);
 
 /* The string of a record, at the head of out; *written is its length. A refused write changes no byte and stores 0 in
    *written. 10, before all else: numbers_length is below 29. Then, in the order 1, 7, 8, 9, 10: the writer's refusals;
    7 also where the numbers are no record, 10 where out_length is below the string's length. */
-uint32_t lindenscoop_write_raw(uint32_t form, const uint32_t *numbers, size_t numbers_length, uint8_t *out, size_t out_length, size_t *written);
+LINDENSCOOP_NOT_NULL uint32_t lindenscoop_write_raw(uint32_t form, const uint32_t *numbers, size_t numbers_length, uint8_t *out, size_t out_length, size_t *written);
 
 /* The first valid string at or after start, which may be past the end: its place in *place, its record in the first 29
    numbers. Place 0 and the empty record where it is refused with 1 or 12, tested in this order.
    10, before all else: numbers_length is below 29; *place is 0, and no number is stored. */
-uint32_t lindenscoop_search_raw(uint32_t form, const uint8_t *bytes, size_t bytes_length, size_t start, size_t *place, uint32_t *numbers, size_t numbers_length);
+LINDENSCOOP_NOT_NULL uint32_t lindenscoop_search_raw(uint32_t form, const uint8_t *bytes, size_t bytes_length, size_t start, size_t *place, uint32_t *numbers, size_t numbers_length);
 
 /* A new listener, in the first 70 bytes. 1: the form is not 1..7; the state stored then answers every byte with 11.
    10, before all else: state_length is below 70; nothing is stored. */
-uint32_t lindenscoop_start_raw(uint32_t form, uint8_t *state, size_t state_length);
+LINDENSCOOP_NOT_NULL uint32_t lindenscoop_start_raw(uint32_t form, uint8_t *state, size_t state_length);
 
 /* Feeds one byte. 0: nothing. 100: a record is handed out and stored in the first 29 numbers, which nothing else
    changes. 13: as 0, in place of a record that overlaps the last one. 11: not a state, and left as it is.
    10, before all else: state_length is below 70 or numbers_length below 29; nothing is stored. */
-uint32_t lindenscoop_feed_raw(uint8_t *state, size_t state_length, uint8_t byte, uint32_t *numbers, size_t numbers_length);
+LINDENSCOOP_NOT_NULL uint32_t lindenscoop_feed_raw(uint8_t *state, size_t state_length, uint8_t byte, uint32_t *numbers, size_t numbers_length);
 
 /* Feeds bytes one after the other, up to the first that is answered by anything but 0, and returns that answer; *used
    is how many were fed, that one included. 0: all were fed and nothing was heard. 10: as for one byte; *used is 0.
    A call that is lent bytes and is not answered 10 uses one at least. Called again behind the bytes used, and on
    buffer after buffer, it answers to every byte as lindenscoop_feed_raw does, wherever the buffers end. */
-uint32_t lindenscoop_feed_all_raw(uint8_t *state, size_t state_length, const uint8_t *bytes, size_t bytes_length, size_t *used, uint32_t *numbers, size_t numbers_length);
+LINDENSCOOP_NOT_NULL uint32_t lindenscoop_feed_all_raw(uint8_t *state, size_t state_length, const uint8_t *bytes, size_t bytes_length, size_t *used, uint32_t *numbers, size_t numbers_length);
 
 /* Runs a new listener over bytes: marks[i] is 1 where byte i completes a valid string, else 0, for each of them.
    1: the form is not 1..7. 10: marks_length is below bytes_length. Tested in this order; neither changes a mark. */
-uint32_t lindenscoop_mark_raw(uint32_t form, const uint8_t *bytes, size_t bytes_length, uint8_t *marks, size_t marks_length);
+LINDENSCOOP_NOT_NULL uint32_t lindenscoop_mark_raw(uint32_t form, const uint8_t *bytes, size_t bytes_length, uint8_t *marks, size_t marks_length);
+#undef LINDENSCOOP_NOT_NULL
 
 #ifdef __cplusplus
 }
@@ -178,32 +204,41 @@ uint32_t lindenscoop_mark_raw(uint32_t form, const uint8_t *bytes, size_t bytes_
 
 /* ---- The same over the structs. ---- */
 
+#ifdef __cplusplus
+#define LINDENSCOOP_CAST(type, value) static_cast<type>(value)
+#else
+#define LINDENSCOOP_CAST(type, value) ((type)(value))
+#endif
+
 /* A pointer that is not null, for the exported functions. */
 static inline const uint8_t *lindenscoop_bytes(const void *bytes)
 {
     static const uint8_t none = 0;
-    return bytes ? (const uint8_t *)bytes : &none;
-}
-
-static inline uint32_t *lindenscoop_numbers(lindenscoop_record *record)
-{
-    return (uint32_t *)record;
+    return bytes ? LINDENSCOOP_CAST(const uint8_t *, bytes) : &none;
 }
 
 static inline uint32_t lindenscoop_read(uint32_t form, const void *input, size_t length, lindenscoop_record *record)
 {
-    return lindenscoop_read_raw(form, lindenscoop_bytes(input), length, lindenscoop_numbers(record), LINDENSCOOP_RECORD_NUMBERS);
+    uint32_t numbers[LINDENSCOOP_RECORD_NUMBERS];
+    uint32_t answer = lindenscoop_read_raw(form, lindenscoop_bytes(input), length, numbers, LINDENSCOOP_RECORD_NUMBERS);
+    memcpy(record, numbers, sizeof numbers);
+    return answer;
 }
 
 static inline uint32_t lindenscoop_write(uint32_t form, const lindenscoop_record *record, void *out, size_t length, size_t *written)
 {
+    uint32_t numbers[LINDENSCOOP_RECORD_NUMBERS];
     uint8_t none = 0;
-    return lindenscoop_write_raw(form, (const uint32_t *)record, LINDENSCOOP_RECORD_NUMBERS, out ? (uint8_t *)out : &none, length, written);
+    memcpy(numbers, record, sizeof numbers);
+    return lindenscoop_write_raw(form, numbers, LINDENSCOOP_RECORD_NUMBERS, out ? LINDENSCOOP_CAST(uint8_t *, out) : &none, length, written);
 }
 
 static inline uint32_t lindenscoop_search(uint32_t form, const void *bytes, size_t length, size_t start, size_t *place, lindenscoop_record *record)
 {
-    return lindenscoop_search_raw(form, lindenscoop_bytes(bytes), length, start, place, lindenscoop_numbers(record), LINDENSCOOP_RECORD_NUMBERS);
+    uint32_t numbers[LINDENSCOOP_RECORD_NUMBERS];
+    uint32_t answer = lindenscoop_search_raw(form, lindenscoop_bytes(bytes), length, start, place, numbers, LINDENSCOOP_RECORD_NUMBERS);
+    memcpy(record, numbers, sizeof numbers);
+    return answer;
 }
 
 static inline uint32_t lindenscoop_start(uint32_t form, lindenscoop_listener *listener)
@@ -211,14 +246,23 @@ static inline uint32_t lindenscoop_start(uint32_t form, lindenscoop_listener *li
     return lindenscoop_start_raw(form, listener->bytes, LINDENSCOOP_LISTENER_BYTES);
 }
 
+/* The record is stored where the answer is LINDENSCOOP_HEARD, and left as it is otherwise. */
 static inline uint32_t lindenscoop_feed(lindenscoop_listener *listener, uint8_t byte, lindenscoop_record *record)
 {
-    return lindenscoop_feed_raw(listener->bytes, LINDENSCOOP_LISTENER_BYTES, byte, lindenscoop_numbers(record), LINDENSCOOP_RECORD_NUMBERS);
+    uint32_t numbers[LINDENSCOOP_RECORD_NUMBERS];
+    uint32_t answer = lindenscoop_feed_raw(listener->bytes, LINDENSCOOP_LISTENER_BYTES, byte, numbers, LINDENSCOOP_RECORD_NUMBERS);
+    if (answer == LINDENSCOOP_HEARD)
+        memcpy(record, numbers, sizeof numbers);
+    return answer;
 }
 
 static inline uint32_t lindenscoop_feed_all(lindenscoop_listener *listener, const void *bytes, size_t length, size_t *used, lindenscoop_record *record)
 {
-    return lindenscoop_feed_all_raw(listener->bytes, LINDENSCOOP_LISTENER_BYTES, lindenscoop_bytes(bytes), length, used, lindenscoop_numbers(record), LINDENSCOOP_RECORD_NUMBERS);
+    uint32_t numbers[LINDENSCOOP_RECORD_NUMBERS];
+    uint32_t answer = lindenscoop_feed_all_raw(listener->bytes, LINDENSCOOP_LISTENER_BYTES, lindenscoop_bytes(bytes), length, used, numbers, LINDENSCOOP_RECORD_NUMBERS);
+    if (answer == LINDENSCOOP_HEARD)
+        memcpy(record, numbers, sizeof numbers);
+    return answer;
 }
 
 static inline uint32_t lindenscoop_mark(uint32_t form, const void *bytes, size_t length, uint8_t *marks, size_t marks_length)
@@ -266,33 +310,173 @@ static inline const char *lindenscoop_message(uint32_t answer)
     }
 }
 
-/* ---- Signed values of a record. A value is read where its field is present and the library stored it. ---- */
+/* ---- The fields of a record. ----
+ *
+ * lindenscoop_get_NAME answers whether the field is there, and stores its value behind the pointers only then; where it
+ * answers false, nothing is stored. A kind, a sign or a magnitude that no record of the library has counts as not there.
+ * lindenscoop_set_NAME makes the field present; whether the value is one that a record may have is for lindenscoop_write to say.
+ */
 
-static inline int32_t lindenscoop_signed(uint32_t negative, uint32_t magnitude)
+/* The answer of a get must be looked at: where it is false, the pointers were given nothing. */
+#ifdef __GNUC__
+#define LINDENSCOOP_MUST_CHECK __attribute__((warn_unused_result))
+#else
+#define LINDENSCOOP_MUST_CHECK
+#endif
+
+/* Year 2000 and later, month, day. False for a day of year alone. */
+static inline LINDENSCOOP_MUST_CHECK bool lindenscoop_get_date(const lindenscoop_record *record, uint32_t *year, uint32_t *month, uint32_t *day)
 {
-    return negative ? -(int32_t)magnitude : (int32_t)magnitude;
+    if (record->date != LINDENSCOOP_FULL_DATE || record->year > 99)
+        return false;
+    *year = 2000 + record->year;
+    *month = record->month;
+    *day = record->day;
+    return true;
+}
+
+/* A year before 2000 or after 2099 makes a record that lindenscoop_write refuses. */
+static inline void lindenscoop_set_date(lindenscoop_record *record, uint32_t year, uint32_t month, uint32_t day)
+{
+    record->date = LINDENSCOOP_FULL_DATE;
+    record->year = year - 2000;
+    record->month = month;
+    record->day = day;
+}
+
+/* 1..366, where it was sent in place of a date. False for a full date. */
+static inline LINDENSCOOP_MUST_CHECK bool lindenscoop_get_day_of_year(const lindenscoop_record *record, uint32_t *day)
+{
+    if (record->date != LINDENSCOOP_DAY_OF_YEAR)
+        return false;
+    *day = record->day_of_year;
+    return true;
+}
+
+static inline void lindenscoop_set_day_of_year(lindenscoop_record *record, uint32_t day)
+{
+    record->date = LINDENSCOOP_DAY_OF_YEAR;
+    record->day_of_year = day;
+}
+
+/* The fraction of the second is value / parts; parts is 1000 or 10000000, as it was sent. */
+static inline LINDENSCOOP_MUST_CHECK bool lindenscoop_get_fraction(const lindenscoop_record *record, uint32_t *value, uint32_t *parts)
+{
+    if (record->fraction != LINDENSCOOP_THOUSANDTHS && record->fraction != LINDENSCOOP_TEN_MILLIONTHS)
+        return false;
+    *value = record->fraction_value;
+    *parts = record->fraction == LINDENSCOOP_THOUSANDTHS ? 1000 : 10000000;
+    return true;
+}
+
+/* The kind is LINDENSCOOP_THOUSANDTHS or LINDENSCOOP_TEN_MILLIONTHS. */
+static inline void lindenscoop_set_fraction(lindenscoop_record *record, uint32_t kind, uint32_t value)
+{
+    record->fraction = kind;
+    record->fraction_value = value;
+}
+
+static inline LINDENSCOOP_MUST_CHECK bool lindenscoop_get_channel(const lindenscoop_record *record, uint32_t *number)
+{
+    if (record->channel != LINDENSCOOP_PRESENT)
+        return false;
+    *number = record->channel_number;
+    return true;
+}
+
+static inline void lindenscoop_set_channel(lindenscoop_record *record, uint32_t number)
+{
+    record->channel = LINDENSCOOP_PRESENT;
+    record->channel_number = number;
+}
+
+/* Flags. For a single test: lindenscoop_is_yes(record.sync), true where it was sent as yes, and lindenscoop_is_no(record.sync),
+   true where it was sent as no; both are false where it was not sent. */
+static inline bool lindenscoop_is_yes(uint32_t flag)
+{
+    return flag == LINDENSCOOP_YES;
+}
+
+static inline bool lindenscoop_is_no(uint32_t flag)
+{
+    return flag == LINDENSCOOP_NO;
+}
+
+/* What to store in a flag of a record to be written:  record.sync = lindenscoop_flag(true) */
+static inline uint32_t lindenscoop_flag(bool yes)
+{
+    return yes ? LINDENSCOOP_YES : LINDENSCOOP_NO;
+}
+
+static inline LINDENSCOOP_MUST_CHECK bool lindenscoop_get_flag(uint32_t flag, bool *yes)
+{
+    if (!lindenscoop_is_yes(flag) && !lindenscoop_is_no(flag))
+        return false;
+    *yes = lindenscoop_is_yes(flag);
+    return true;
+}
+
+static inline LINDENSCOOP_MUST_CHECK bool lindenscoop_get_sync(const lindenscoop_record *record, bool *yes)
+{
+    return lindenscoop_get_flag(record->sync, yes);
+}
+
+static inline LINDENSCOOP_MUST_CHECK bool lindenscoop_get_fix(const lindenscoop_record *record, bool *yes)
+{
+    return lindenscoop_get_flag(record->fix, yes);
+}
+
+static inline LINDENSCOOP_MUST_CHECK bool lindenscoop_get_utc(const lindenscoop_record *record, bool *yes)
+{
+    return lindenscoop_get_flag(record->utc, yes);
+}
+
+static inline LINDENSCOOP_MUST_CHECK bool lindenscoop_get_summer(const lindenscoop_record *record, bool *yes)
+{
+    return lindenscoop_get_flag(record->summer, yes);
+}
+
+static inline LINDENSCOOP_MUST_CHECK bool lindenscoop_get_change(const lindenscoop_record *record, bool *yes)
+{
+    return lindenscoop_get_flag(record->change, yes);
+}
+
+static inline LINDENSCOOP_MUST_CHECK bool lindenscoop_get_leap(const lindenscoop_record *record, bool *yes)
+{
+    return lindenscoop_get_flag(record->leap, yes);
+}
+
+static inline LINDENSCOOP_MUST_CHECK bool lindenscoop_get_dsp(const lindenscoop_record *record, bool *yes)
+{
+    return lindenscoop_get_flag(record->dsp, yes);
+}
+
+static inline LINDENSCOOP_MUST_CHECK bool lindenscoop_get_lsp(const lindenscoop_record *record, bool *yes)
+{
+    return lindenscoop_get_flag(record->lsp, yes);
+}
+
+/* The number of a sign and a magnitude; false where they are none. */
+static inline LINDENSCOOP_MUST_CHECK bool lindenscoop_signed(uint32_t negative, uint32_t magnitude, int32_t *value)
+{
+    if (negative > 1 || magnitude > 0x7fffffffu)
+        return false;
+    *value = LINDENSCOOP_CAST(int32_t, magnitude);
+    if (negative)
+        *value = -*value;
+    return true;
 }
 
 static inline uint32_t lindenscoop_magnitude(int32_t value)
 {
-    return value < 0 ? 0u - (uint32_t)value : (uint32_t)value;
+    uint32_t magnitude = LINDENSCOOP_CAST(uint32_t, value);
+    return value < 0 ? 0u - magnitude : magnitude;
 }
 
-static inline int32_t lindenscoop_offset(const lindenscoop_record *record)
+/* Minutes of local time minus UTC. */
+static inline LINDENSCOOP_MUST_CHECK bool lindenscoop_get_offset(const lindenscoop_record *record, int32_t *minutes)
 {
-    return lindenscoop_signed(record->offset_negative, record->offset_minutes);
-}
-
-/* Ten-thousandths of a degree, north positive. */
-static inline int32_t lindenscoop_latitude(const lindenscoop_record *record)
-{
-    return lindenscoop_signed(record->south, record->latitude);
-}
-
-/* Ten-thousandths of a degree, east positive. */
-static inline int32_t lindenscoop_longitude(const lindenscoop_record *record)
-{
-    return lindenscoop_signed(record->west, record->longitude);
+    return record->offset == LINDENSCOOP_PRESENT && lindenscoop_signed(record->offset_negative, record->offset_minutes, minutes);
 }
 
 static inline void lindenscoop_set_offset(lindenscoop_record *record, int32_t minutes)
@@ -300,6 +484,18 @@ static inline void lindenscoop_set_offset(lindenscoop_record *record, int32_t mi
     record->offset = LINDENSCOOP_PRESENT;
     record->offset_negative = minutes < 0;
     record->offset_minutes = lindenscoop_magnitude(minutes);
+}
+
+/* Ten-thousandths of a degree, north and east positive, and metres. */
+static inline LINDENSCOOP_MUST_CHECK bool lindenscoop_get_position(const lindenscoop_record *record, int32_t *latitude, int32_t *longitude, uint32_t *altitude)
+{
+    int32_t north = 0, east = 0;
+    if (record->position != LINDENSCOOP_PRESENT || !lindenscoop_signed(record->south, record->latitude, &north) || !lindenscoop_signed(record->west, record->longitude, &east))
+        return false;
+    *latitude = north;
+    *longitude = east;
+    *altitude = record->altitude;
+    return true;
 }
 
 static inline void lindenscoop_set_position(lindenscoop_record *record, int32_t latitude, int32_t longitude, uint32_t altitude)
@@ -311,5 +507,8 @@ static inline void lindenscoop_set_position(lindenscoop_record *record, int32_t 
     record->longitude = lindenscoop_magnitude(longitude);
     record->altitude = altitude;
 }
+
+#undef LINDENSCOOP_MUST_CHECK
+#undef LINDENSCOOP_CAST
 
 #endif

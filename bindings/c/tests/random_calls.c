@@ -91,7 +91,7 @@ static uint32_t sometimes(uint32_t usual, uint32_t other)
 
 static void random_record(lindenscoop_record *r)
 {
-    uint32_t *numbers = (uint32_t *)r;
+    uint32_t flags[6], numbers[NUMBERS];
     memset(r, 0, sizeof *r);
     r->hour = sometimes(draw(24), draw(30));
     r->minute = draw(60);
@@ -105,16 +105,20 @@ static void random_record(lindenscoop_record *r)
     r->fraction_value = sometimes(draw(1000), draw(10000001));
     r->channel = sometimes(1, draw(4));
     r->channel_number = sometimes(draw(2), 2);
-    for (int i = 12; i < 18; i++)
-        numbers[i] = sometimes(1 + draw(2), draw(5));
+    for (int i = 0; i < 6; i++)
+        flags[i] = sometimes(1 + draw(2), draw(5));
+    r->sync = flags[0], r->fix = flags[1], r->utc = flags[2];
+    r->summer = flags[3], r->change = flags[4], r->leap = flags[5];
     if (draw(8))
         r->utc = 1;
     r->dsp = sometimes(1 + draw(2), draw(4));
     r->lsp = sometimes(1 + draw(2), draw(4));
     lindenscoop_set_offset(r, (int32_t)draw(57) * 30 - 840);
     lindenscoop_set_position(r, (int32_t)draw(1800001) - 900000, (int32_t)draw(3600001) - 1800000, sometimes(draw(10000), 10000));
+    memcpy(numbers, r, sizeof numbers);
     if (!draw(30))
         numbers[draw(NUMBERS)] = draw(2) ? draw(3) : 0xffffffffu - draw(2) * 0x7fffffffu;
+    memcpy(r, numbers, sizeof numbers);
 }
 
 static uint32_t random_form(void)

@@ -1,6 +1,8 @@
 //! Prints what was heard in a serial log as CSV, with empty cells for absent fields.
 //!
 //!     cargo run --release -p lindenscoop --example heard_csv -- FORM [FILE]
+//!
+//! FORM is a name or a number; standard input is read where no file is named.
 
 use std::env;
 use std::error::Error;
@@ -24,18 +26,16 @@ fn flag(field: Option<bool>) -> String {
 fn date(date: Option<Date>) -> [String; 2] {
     match date {
         None => [String::new(), String::new()],
-        Some(Date::Full { year, month, day }) => {
-            [format!("20{year:02}-{month:02}-{day:02}"), String::new()]
-        }
         Some(Date::DayOfYear(day)) => [String::new(), day.to_string()],
+        Some(date @ Date::Full { month, day, .. }) => {
+            let year = cell(date.full_year());
+            [format!("{year}-{month:02}-{day:02}"), String::new()]
+        }
     }
 }
 
 fn fraction(fraction: Fraction) -> String {
-    match fraction {
-        Fraction::Thousandths(value) => format!("0.{value:03}"),
-        Fraction::TenMillionths(value) => format!("0.{value:07}"),
-    }
+    format!("0.{:01$}", fraction.value(), fraction.digits())
 }
 
 fn offset(minutes: i32) -> String {
@@ -74,21 +74,19 @@ fn row(r: &Record) -> String {
 }
 
 fn print(words: &[String]) -> Result<(), Box<dyn Error>> {
-    let form = Form(
-        words
-            .first()
-            .ok_or("usage: heard_csv FORM [FILE]")?
-            .parse()?,
-    );
+    let form: Form = words
+        .first()
+        .ok_or("usage: heard_csv FORM [FILE]")?
+        .parse()?;
     let input: Box<dyn Read> = match words.get(1) {
         Some(path) => Box::new(File::open(path)?),
         None => Box::new(io::stdin()),
     };
-    let records = heard(form, input)?;
+    let strings = heard(form, input)?;
     let mut out = BufWriter::new(io::stdout().lock());
     writeln!(out, "{HEADER}")?;
-    for record in records {
-        writeln!(out, "{}", row(&record?))?;
+    for found in strings {
+        writeln!(out, "{}", row(&found?.record))?;
     }
     Ok(out.flush()?)
 }

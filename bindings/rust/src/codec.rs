@@ -34,14 +34,34 @@ pub fn write(form: Form, record: &Record, buffer: &mut [u8]) -> Result<usize, Re
     }
 }
 
-/// A valid string and where it begins.
+/// Writes a record behind what a vector holds and says how many bytes it has. A refused write leaves the vector as it is.
+///
+/// ```
+/// use lindenscoop::{append, Date, Form, Record};
+///
+/// let record = Record { date: Date::of_full_year(2024, 1, 1), hour: 12, ..Record::default() };
+/// let mut log = Vec::new();
+/// append(Form::RACAL, &record, &mut log)?;
+/// append(Form::RACAL, &Record { second: 1, ..record }, &mut log)?;
+/// assert_eq!(log, b"XGU240101120000\rXGU240101120001\r");
+/// # Ok::<(), lindenscoop::Refusal>(())
+/// ```
+pub fn append(form: Form, record: &Record, out: &mut Vec<u8>) -> Result<usize, Refusal> {
+    let mut string = [0; LONGEST_STRING];
+    let written = write(form, record, &mut string)?;
+    out.extend_from_slice(&string[..written]);
+    Ok(written)
+}
+
+/// A valid string and where it begins: the number of bytes before it.
 #[derive(Clone, Copy, Debug, PartialEq, Eq)]
 pub struct Found {
     pub place: usize,
     pub record: Record,
 }
 
-/// The first valid string of a serial form that lies wholly at or after a start.
+/// The first valid string of a serial form that lies wholly at or after a start. A form that is not serial is refused with
+/// [`Refusal::UnknownForm`].
 ///
 /// ```
 /// use lindenscoop::{search, Form, Refusal};
@@ -68,8 +88,8 @@ impl Record {
     /// assert!(block.starts_with("date=-\ntime=00:00:00\n"));
     /// ```
     pub fn block(&self) -> Result<String, Refusal> {
-        let mut out = [0; LONGEST_STRING];
-        let written = write(Form::BLOCK, self, &mut out)?;
-        Ok(String::from_utf8_lossy(&out[..written]).into_owned())
+        let mut out = Vec::new();
+        append(Form::BLOCK, self, &mut out)?;
+        Ok(String::from_utf8_lossy(&out).into_owned())
     }
 }

@@ -21,8 +21,8 @@ mod record;
 mod refusal;
 mod telegrams;
 
-pub use codec::{read, search, write, Found};
-pub use form::Form;
+pub use codec::{append, read, search, write, Found};
+pub use form::{Form, ParseFormError};
 pub use listener::{Listener, State};
 pub use record::{Date, Fraction, Position, Record};
 pub use refusal::Refusal;

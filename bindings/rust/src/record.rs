@@ -9,13 +9,73 @@ pub enum Date {
     DayOfYear(u32),
 }
 
-/// A fraction of a second; one kind is never converted into the other.
+impl Date {
+    /// The date of a year with its century, 2000 to 2099; `None` for any other year.
+    pub fn of_full_year(year: u32, month: u32, day: u32) -> Option<Date> {
+        let year = year.checked_sub(2000).filter(|year| *year <= 99)?;
+        Some(Date::Full { year, month, day })
+    }
+
+    /// The year with its century; `None` for a day of year alone.
+    ///
+    /// ```
+    /// use lindenscoop::{read, Date, Form};
+    ///
+    /// let date = read(Form::RACAL, b"XGU240101120000\r").unwrap().date;
+    /// assert_eq!(date, Some(Date::Full { year: 24, month: 1, day: 1 }));
+    /// assert_eq!(date.and_then(|date| date.full_year()), Some(2024));
+    /// assert_eq!(date, Date::of_full_year(2024, 1, 1));
+    /// ```
+    pub fn full_year(self) -> Option<u32> {
+        match self {
+            Date::Full { year, .. } if year <= 99 => Some(2000 + year),
+            _ => None,
+        }
+    }
+}
+
+/// A fraction of a second; one kind is never converted into the other. More kinds will come, so a `match` has an arm for any
+/// other one, or the fraction is taken as [`value`](Fraction::value) and [`digits`](Fraction::digits):
+///
+/// ```
+/// use lindenscoop::Fraction;
+///
+/// let fraction = Fraction::Thousandths(7);
+/// assert_eq!(format!("0.{:01$}", fraction.value(), fraction.digits()), "0.007");
+/// ```
+///
+/// ```compile_fail,E0004
+/// fn digits(fraction: lindenscoop::Fraction) -> usize {
+///     match fraction {
+///         lindenscoop::Fraction::Thousandths(_) => 3,
+///         lindenscoop::Fraction::TenMillionths(_) => 7,
+///     }
+/// }
+/// ```
 #[derive(Clone, Copy, Debug, PartialEq, Eq, Hash)]
+#[non_exhaustive]
 pub enum Fraction {
     /// 0..=999
     Thousandths(u32),
     /// 0..=9_999_999
     TenMillionths(u32),
+}
+
+impl Fraction {
+    /// The number that was sent; of the second it is this over 10 to the power of [`digits`](Fraction::digits).
+    pub fn value(self) -> u32 {
+        match self {
+            Fraction::Thousandths(value) | Fraction::TenMillionths(value) => value,
+        }
+    }
+
+    /// How many digits were sent behind the point: 3 or 7.
+    pub fn digits(self) -> usize {
+        match self {
+            Fraction::Thousandths(_) => 3,
+            Fraction::TenMillionths(_) => 7,
+        }
+    }
 }
 
 /// Ten-thousandths of a degree, north and east positive, and metres.

@@ -2,11 +2,23 @@
 
 use std::error::Error;
 use std::fmt;
+use std::io;
 
 macro_rules! refusals {
     ($($name:ident = $number:literal, $meaning:literal;)*) => {
-        /// A refusal, with the number that the library answers.
+        /// A refusal, with the number that the library answers. More will come, so a `match` has an arm for any other one:
+        ///
+        /// ```compile_fail,E0004
+        /// use lindenscoop::Refusal::*;
+        ///
+        /// fn is_known(refusal: lindenscoop::Refusal) -> bool {
+        ///     match refusal {
+        #[doc = concat!("        ", $("| ", stringify!($name), " ",)* "=> true,")]
+        ///     }
+        /// }
+        /// ```
         #[derive(Clone, Copy, Debug, PartialEq, Eq, Hash)]
+        #[non_exhaustive]
         pub enum Refusal {
             $(#[doc = $meaning] $name = $number,)*
         }
@@ -72,3 +84,37 @@ impl fmt::Display for Refusal {
 }
 
 impl Error for Refusal {}
+
+/// For functions that return `io::Result`: `InvalidInput` where a form, a record or a buffer of the caller's is refused, `InvalidData` where
+/// bytes that were read are. The refusal is kept inside.
+///
+/// ```
+/// use lindenscoop::{read, Form, Record, Refusal};
+///
+/// fn first(bytes: &[u8]) -> std::io::Result<Record> {
+///     Ok(read(Form::RACAL, bytes)?)
+/// }
+/// let error = first(b"XGU").unwrap_err();
+/// assert_eq!(error.kind(), std::io::ErrorKind::InvalidData);
+/// assert_eq!(error.downcast::<Refusal>().unwrap(), Refusal::WrongLength);
+/// ```
+impl From<Refusal> for io::Error {
+    fn from(refusal: Refusal) -> io::Error {
+        let kind = match refusal {
+            Refusal::UnknownForm
+            | Refusal::BadRecord
+            | Refusal::MissingField
+            | Refusal::NotExpressible
+            | Refusal::ShortBuffer => io::ErrorKind::InvalidInput,
+            Refusal::WrongLength
+            | Refusal::WrongByte
+            | Refusal::OutOfRange
+            | Refusal::Disagreement
+            | Refusal::WrongChecksum
+            | Refusal::BadState
+            | Refusal::NotFound
+            | Refusal::Overlap => io::ErrorKind::InvalidData,
+        };
+        io::Error::new(kind, refusal)
+    }
+}

@@ -6,10 +6,9 @@ use crate::codec::{search, Found};
 use crate::ffi;
 use crate::form::Form;
 use crate::listener::Listener;
-use crate::record::Record;
 use crate::refusal::Refusal;
 
-/// The valid strings of a serial form in a slice, in order.
+/// The valid strings of a serial form in a slice, in order, each with its place.
 ///
 /// ```
 /// use lindenscoop::{telegrams, Form};
@@ -72,20 +71,33 @@ pub fn mark(form: Form, bytes: &[u8], marks: &mut [u8]) -> Result<(), Refusal> {
     }
 }
 
-/// The records heard in what a reader yields, in pieces of any size.
+/// The strings heard in what a reader yields, in pieces of any size, each with its place: the number of bytes read before it.
 ///
 /// ```
 /// use lindenscoop::{heard, Form};
 ///
 /// let log: &[u8] = b"noiseXGU000229000000\r";
-/// let records: Result<Vec<_>, _> = heard(Form::RACAL, log).unwrap().collect();
-/// assert_eq!(records.unwrap().len(), 1);
+/// for found in heard(Form::RACAL, log).unwrap() {
+///     let found = found.unwrap();
+///     assert_eq!((found.place, found.record.second), (5, 0));
+/// }
+/// ```
+///
+/// A form that is none of 1 to 7 is refused, before anything is read:
+///
+/// ```
+/// use lindenscoop::{heard, Form, Refusal};
+///
+/// assert_eq!(heard(Form::BLOCK, std::io::empty()).err(), Some(Refusal::UnknownForm));
 /// ```
 pub fn heard<R: Read>(form: Form, reader: R) -> Result<Heard<R>, Refusal> {
     let listener = Listener::new(form)?;
+    let length = form.length().ok_or(Refusal::UnknownForm)?;
     Ok(Heard {
         reader,
         listener,
+        length,
+        fed: 0,
         piece: vec![0; 65536],
         at: 0,
         end: 0,
@@ -97,6 +109,10 @@ pub fn heard<R: Read>(form: Form, reader: R) -> Result<Heard<R>, Refusal> {
 pub struct Heard<R> {
     reader: R,
     listener: Listener,
+    /// of a string
+    length: usize,
+    /// bytes of the stream so far
+    fed: usize,
     piece: Vec<u8>,
     at: usize,
     end: usize,
@@ -119,21 +135,25 @@ impl<R: Read> Heard<R> {
 }
 
 impl<R: Read> Iterator for Heard<R> {
-    type Item = io::Result<Record>;
+    type Item = io::Result<Found>;
 
-    fn next(&mut self) -> Option<io::Result<Record>> {
+    fn next(&mut self) -> Option<io::Result<Found>> {
         loop {
             let (used, answer) = self.listener.feed_all(&self.piece[self.at..self.end]);
             self.at += used;
+            self.fed += used;
             match answer {
-                Ok(Some(record)) => return Some(Ok(record)),
+                Ok(Some(record)) => {
+                    let place = self.fed - self.length;
+                    return Some(Ok(Found { place, record }));
+                }
                 Ok(None) => match self.refill() {
                     Ok(true) => {}
                     Ok(false) => return None,
                     Err(error) => return Some(Err(error)),
                 },
                 // A listener that was started is never refused; were it so, the caller is told.
-                Err(refusal) => return Some(Err(io::Error::other(refusal))),
+                Err(refusal) => return Some(Err(refusal.into())),
             }
         }
     }

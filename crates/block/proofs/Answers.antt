@@ -1,8 +1,8 @@
 -- The answer of an edition of the block is what its lines come to one behind the other.
-use Rattle.cond.proofs.Kit.{[], _&&_, _++_, _+_, _-_, _<_, _∙_, _∷_, _≡_, _≤_, add-one, ap, arith, Bool, drop, drop-cons, eqb, false, getD, le-leb, length}
-use Rattle.cond.proofs.Kit.{List, not, not-true, refl, suc, sym, take, true, zero, ℕ}
+use Rattle.cond.proofs.Kit.{[], _&&_, _++_, _+_, _-_, _<_, _∙_, _∷_, _≡_, _≤_, add-one, ap, arith, Bool, drop, drop-cons, eqb, false, getD, le-leb, length, List, not, not-true, refl, suc, sym, take, true, zero, ℕ}
 use Rattle.cond.specs.Pick.{pick}
 use Rattle.cond.proofs.Tests.{both}
+use Rattle.spelling.proofs.Stores.{lent-length}
 use Rattle.record.specs.declared.answer.Reading.the-variants as reading
 use Rattle.record.specs.declared.refusal.Refusal.the-variants as refusal
 use Rattle.forms.specs.Block.{Edition, Line, chosenLayout, variantAt, readBlock, layoutAt}
@@ -23,7 +23,7 @@ use Rattle.block_lines.proofs.Closed.{in-reach, isClosed}
 use Rattle.block.specs.Reading.{nothingDecoded, onward, readLines}
 use Rattle.block.proofs.Decoded.{groups}
 use Rattle.block.proofs.Fields.{member, none-of}
-use Rattle.block.proofs.Lent.{lent-length, lent-whole}
+use Rattle.block.proofs.Lent.{lent-whole}
 use Rattle.block.proofs.Once.{any-append, everyGroup, found-passes, group-passes, placedOnce, without}
 use Rattle.block.proofs.Plain.{plain-validated}
 use Rattle.block.proofs.Reading.{lines-read}

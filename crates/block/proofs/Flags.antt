@@ -1,4 +1,4 @@
--- The lines of the yes or no fields: one law for the reader and one for the writer, over the key, the slot and the number of the line.
+-- The lines of the yes or no fields: one law for their reader, over the key, the slot and the number of the line.
 use Rattle.cond.proofs.Kit.{[], _<_, _∙_, _≡_, _≤_, ap, ap₂, arith, Bool, drop, false, getD, List, refl, sym, take, true, ℕ, _+_, _∷_, _&&_, and-false, eq-eqb, eqb, length}
 use Prim.Native.String.{String}
 use Rattle.spelling.specs.Bytes.{sameBytes, text}
@@ -7,20 +7,14 @@ use Rattle.spelling.proofs.Spelling.{sized-value, spelled-parts}
 use Rattle.spelling.proofs.SameBytes.{same-bytes}
 use Rattle.cond.proofs.Tests.{both}
 use Rattle.record.specs.declared.Flag.the-variants as flagIs
-use Rattle.record.specs.declared.Record.{Record}
 use Rattle.forms.specs.Block.{blockLines, flagLine, variantAt}
-use Rattle.forms.specs.Fields.Flag.{flagChoice}
 use Rattle.forms.specs.Places.{Layout, fixed, layoutWidth, part, shape, values}
 use Rattle.forms.specs.Slots.{Slot}
-use Rattle.forms.specs.Encode.{encode}
-use Rattle.block_lines.specs.Flags.{flagIn, flagRead, flagSlot, flagDecoded}
+use Rattle.block_lines.specs.Flags.{flagRead, flagSlot, flagDecoded}
 use Rattle.block_lines.specs.Reading.{decoded, lineRead, onto, wordLayout}
-use Rattle.block_lines.specs.Stores.{Laid, flagText}
 use Rattle.block_lines.specs.declared.state.Found.{Found}
 use Rattle.block_lines.specs.declared.state.Found.the-variants as found
 use Rattle.block_lines.specs.declared.state.State.{State}
-use Rattle.block.specs.Lines.{lineOf}
-use Rattle.block.proofs.Layouts.{flag-laid}
 
 -- one word alone is spelled where its bytes stand
 spelled-word : (m : ℕ) (bs x : List ℕ) → isSpelled (word m bs) x ≡ sameBytes x bs
@@ -80,13 +74,6 @@ module _ (key : String) (f : Slot) (s : List ℕ) (b : State) (t : DecodesFlag k
   pub flag-read : (i j : ℕ) → i ≡ j → flagSlot j ≡ f → getD blockLines j [] ≡ flagLine key f → (x : Found) → x ≡ flagRead (text key) (flagSlot i) s b
       → x ≡ lineRead (getD blockLines i []) s b
   flag-read i j e g l x h = h ∙ simp (e, g, l) flag-line
-
-module _ (key : String) (f : Slot) (r : Record) (i j : ℕ) (e : i ≡ j) (p : lineOf r j ≡ getD (flagLine key f) (flagChoice (flagIn (flagSlot j) r)) []) where
-  flag-layout : lineOf r i ≡ getD (flagLine key f) (flagChoice (flagIn (flagSlot i) r)) []
-  flag-layout = ap (lineOf r) e ∙ p ∙ ap (λ (k : ℕ). getD (flagLine key f) (flagChoice (flagIn (flagSlot k) r)) []) (sym e)
-
-  pub flag-written : (n : ℕ) (o a : List ℕ) → Laid (wordLayout (text key) (flagText (flagIn (flagSlot i) r))) (encode r) n o a → Laid (lineOf r i) (encode r) n o a
-  flag-written n o a h = rw flag-layout (flag-laid key f (flagIn (flagSlot i) r) (encode r) n o a h)
 
 -- the last line, as the last arm of a match is told
 abbrev NoneOf : ℕ → Type 0

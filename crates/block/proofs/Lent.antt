@@ -1,12 +1,14 @@
 -- A layout stored into the part of a buffer from a column onward is the layout stored at that column.
-use Rattle.cond.proofs.Kit.{[], _++_, _+_, _-_, _∙_, _∷_, _≡_, _≤_, ap, append-nil, arith, Bool, drop, drop-length, false, leb, leb-false, leb-true, length, length-append, length-drop}
-use Rattle.cond.proofs.Kit.{length-take-le, List, refl, set, sets, suc, sym, take, take-all, take-append-drop, true, ℕ}
-use Rattle.forms.specs.Places.{Place, Layout, fixed, part, placed, width}
+use Rattle.cond.proofs.Kit.{[], _++_, _+_, _-_, _∙_, _∷_, _≡_, _≤_, ap, append-nil, arith, Bool, drop, drop-length, false, leb, leb-false, leb-true, length, length-append, length-drop, length-take-le, List, refl, set, sets, suc, sym, take, take-all, take-append-drop, true, ℕ}
+use Rattle.forms.specs.Places.{Place, Layout, fixed, layoutWidth, part, placed, width}
 use Rattle.forms.specs.Slots.{Slot, Values}
 use Rattle.spelling.specs.Spelling.{spell}
 use Rattle.spelling.specs.Stored.{stored}
-use Rattle.spelling.proofs.Stored.{stored-in, stored-length, stored-out}
+use Rattle.spelling.proofs.Stored.{stored-in, stored-out}
 use Rattle.places.specs.Stores.{stores}
+use Rattle.places.proofs.Stored.{stores-append}
+use Rattle.forms.proofs.Append.{width-append}
+use Rattle.block_lines.specs.Stores.{Laid}
 
 set-behind : (a b : List ℕ) (j x : ℕ) → set (a ++ b) (j + length a) x ≡ a ++ set b j x
 set-behind [] b j x =
@@ -43,11 +45,6 @@ stores-behind (p ∷ ps) v a b j =
     ∙ ap (λ (n : ℕ). stores ps n v (a ++ stored b j (placed p v))) e
     ∙ stores-behind ps v a (stored b j (placed p v)) (width p + j)
 
-pub stores-length : (ps : Layout) (k : ℕ) (v : Values) (o : List ℕ) → length (stores ps k v o) ≡ length o
-unfolding stores
-stores-length [] k v o = refl
-stores-length (p ∷ ps) k v o = stores-length ps (width p + k) v (stored o k (placed p v)) ∙ stored-length o k (placed p v)
-
 -- only what the layout's slots tell counts
 place-same : (p : Place) (v w : Values) → ((f : Slot) → v f ≡ w f) → placed p v ≡ placed p w
 place-same (fixed bs) v w h = refl
@@ -65,9 +62,6 @@ stores-same (p ∷ ps) k v w o h =
 pub lent-whole : (x : List ℕ) (m : ℕ) → take (length x - m) (drop m x) ≡ drop m x
 lent-whole x m = take-all (length x - m) (drop m x) (omega (arith, length-drop m x))
 
-pub lent-length : (x : List ℕ) (m : ℕ) → length (take (length x - m) (drop m x)) ≡ length x - m
-lent-length x m = length-take-le (length x - m) (drop m x) (omega (arith, length-drop m x))
-
 pub lent : (ps : Layout) (v : Values) (x y : List ℕ) (at : ℕ) → at ≤ length x → y ≡ stores ps 0 v (take (length x - at) (drop at x))
     → take at x ++ (y ++ drop (length x - at) (drop at x)) ≡ stores ps at v x
 lent ps v x y at h e =
@@ -78,3 +72,10 @@ lent ps v x y at h e =
     ∙ sym (stores-behind ps v (take at x) (drop at x) 0)
     ∙ ap (λ (n : ℕ). stores ps n v (take at x ++ drop at x)) k
     ∙ ap (stores ps at v) (take-append-drop at x)
+
+-- a line behind lines that stand at the head of the buffer
+pub laid-next : (a b : Layout) (v : Values) (n m : ℕ) (o x y : List ℕ) → n ≤ length x → Laid a v n o x → Laid b v m (take (length x - n) (drop n x)) y
+    → Laid (a ++ b) v (n + m) o (take n x ++ (y ++ drop (length x - n) (drop n x)))
+laid-next a b v n m o x y h p q =
+    let e : n ≡ layoutWidth a + 0 = omega (arith, p .0) in
+    (omega (arith, p .0, q .0, width-append a b), lent b v x y n h (q .1) ∙ rw (e, p .1) (sym (stores-append a b 0 v o)))

@@ -1,7 +1,5 @@
 pub mod Lent
-pub mod Chosen
 pub mod Layouts
-pub mod Progress
 pub mod Columns
 pub mod Fields
 pub mod Decoded

@@ -1,3 +1,2 @@
 pub mod Lines
-pub mod Sizes
 pub mod Reading

@@ -1,30 +1,19 @@
-// The lines by their numbers: each has its own reader and its own writer.
+// The lines by their numbers: each has its own reader.
 ghost use mathlib.Core.Path.{_≡_};
 ghost use mathlib.Core.List.{[]};
 ghost use Prim.Native.Nat.{_<_};
 ghost use lib.ListN.{getD};
 ghost use Rattle.forms.specs.Block.{blockLines};
-ghost use Rattle.forms.specs.Encode.{encode};
 ghost use Rattle.block_lines.specs.Reading.{lineRead};
-ghost use Rattle.block_lines.specs.Stores.{Laid};
-ghost use Rattle.block.specs.Lines.{lineOf};
 use block_lines::channel::read_channel;
-use block_lines::channel::write_channel;
 use block_lines::date::read_date;
-use block_lines::date::write_date;
 use block_lines::flag::read_flag;
-use block_lines::flag::write_flag;
 use block_lines::fraction::read_fraction;
-use block_lines::fraction::write_fraction;
 use block_lines::offset::read_offset;
-use block_lines::offset::write_offset;
 use block_lines::position::read_position;
-use block_lines::position::write_position;
 use block_lines::state::Found;
 use block_lines::state::State;
 use block_lines::time::read_time;
-use block_lines::time::write_time;
-use record::Record;
 
 // Line i at the head of a lent part, behind lines that told `before`.
 pub(crate) fn read_line(i: usize, s: &[u8], before: State) -> Found
@@ -46,28 +35,5 @@ pub(crate) fn read_line(i: usize, s: &[u8], before: State) -> Found
         11 => read_position(s, before),
         12 => read_flag(i, b"dsp=", s, before),
         _ => read_flag(i, b"lsp=", s, before),
-    }
-}
-
-// Line i of a record's block, stored at the head of a lent part.
-pub(crate) fn write_line(i: usize, r: Record, out: &mut [u8]) -> usize
-    requires { ⌜ i < 14 ⌝ }
-    ensures { λ n. ⌜ Laid (lineOf r i) (encode r) n (now (out .entry)) (now (out .exit)) ⌝ }
-{
-    match i {
-        0 => write_date(r, out),
-        1 => write_time(r, out),
-        2 => write_fraction(r, out),
-        3 => write_channel(r, out),
-        4 => write_flag(i, b"sync=", r, out),
-        5 => write_flag(i, b"fix=", r, out),
-        6 => write_flag(i, b"utc=", r, out),
-        7 => write_flag(i, b"summer=", r, out),
-        8 => write_flag(i, b"change=", r, out),
-        9 => write_flag(i, b"leap=", r, out),
-        10 => write_offset(r, out),
-        11 => write_position(r, out),
-        12 => write_flag(i, b"dsp=", r, out),
-        _ => write_flag(i, b"lsp=", r, out),
     }
 }

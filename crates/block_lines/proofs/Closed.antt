@@ -1,6 +1,5 @@
 -- A layout that ends in fixed bytes fits no bytes that are shorter than it.
-use Rattle.cond.proofs.Kit.{[], _&&_, _+_, _∙_, _∷_, _≡_, _≤_, and-true, ap, arith, Bool, drop, false, false≢true, length, length-drop, length-take}
-use Rattle.cond.proofs.Kit.{List, min, min-le-right, suc, sym, take, true, ℕ}
+use Rattle.cond.proofs.Kit.{[], _&&_, _+_, _∙_, _∷_, _≡_, _≤_, and-true, ap, arith, Bool, drop, false, false≢true, length, length-drop, length-take, List, min, min-le-right, suc, sym, take, true, ℕ}
 use Rattle.cond.proofs.Tests.{both}
 use Rattle.spelling.specs.Bytes.{sameBytes}
 use Rattle.spelling.specs.Spelling.{digits, isSpelled}

@@ -1,6 +1,7 @@
 // The line of the channel.
 ghost use mathlib.Core.Path.{_≡_};
 ghost use mathlib.Core.List.{[]};
+ghost use Prim.Native.Nat.{_≤_};
 ghost use lib.ListN.{getD};
 ghost use Rattle.forms.specs.Block.{channelLine};
 ghost use Rattle.forms.specs.Fields.Channel.{channelChoice};
@@ -32,7 +33,7 @@ pub fn read_channel(s: &[u8], before: State) -> Found
 }
 
 pub fn write_channel(r: Record, out: &mut [u8]) -> usize
-    ensures { λ n. ⌜ Laid (getD channelLine (channelChoice (r .channel)) []) (encode r) n (now (out .entry)) (now (out .exit)) ⌝ }
+    ensures { λ n. ⌜ Laid (getD channelLine (channelChoice (r .channel)) []) (encode r) n (now (out .entry)) (now (out .exit)) × (n ≤ 10) ⌝ }
 {
     let channel = r.channel;
     match channel {

@@ -1,6 +1,7 @@
 // The line of the date.
 ghost use mathlib.Core.Path.{_≡_};
 ghost use mathlib.Core.List.{[]};
+ghost use Prim.Native.Nat.{_≤_};
 ghost use lib.ListN.{getD};
 ghost use Rattle.forms.specs.Block.{dateLine};
 ghost use Rattle.forms.specs.Fields.Date.{dateChoice};
@@ -87,7 +88,7 @@ fn put_day_of_year(n: u32, out: &mut [u8]) -> usize
 }
 
 pub fn write_date(r: Record, out: &mut [u8]) -> usize
-    ensures { λ n. ⌜ Laid (getD dateLine (dateChoice (r .date)) []) (encode r) n (now (out .entry)) (now (out .exit)) ⌝ }
+    ensures { λ n. ⌜ Laid (getD dateLine (dateChoice (r .date)) []) (encode r) n (now (out .entry)) (now (out .exit)) × (n ≤ 14) ⌝ }
 {
     let date = r.date;
     match date {

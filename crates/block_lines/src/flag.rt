@@ -1,5 +1,7 @@
 // The lines of the yes or no fields, by their keys.
 ghost use mathlib.Core.Path.{_≡_};
+ghost use Prim.Native.Nat.{_+_, _≤_};
+ghost use lib.ListN.{length};
 ghost use Rattle.forms.specs.Encode.{encode};
 ghost use Rattle.block_lines.specs.Flags.{flagIn, flagRead, flagSlot, withFlag};
 ghost use Rattle.block_lines.specs.Reading.{wordLayout};
@@ -63,7 +65,7 @@ pub fn read_flag(i: usize, key: &[u8], s: &[u8], before: State) -> Found
 }
 
 pub fn write_flag(i: usize, key: &[u8], r: Record, out: &mut [u8]) -> usize
-    ensures { λ n. ⌜ Laid (wordLayout (now (key .entry)) (flagText (flagIn (flagSlot i) r))) (encode r) n (now (out .entry)) (now (out .exit)) ⌝ }
+    ensures { λ n. ⌜ Laid (wordLayout (now (key .entry)) (flagText (flagIn (flagSlot i) r))) (encode r) n (now (out .entry)) (now (out .exit)) × (n ≤ length (now (key .entry)) + 4) ⌝ }
 {
     let flag = flag_of(i, r);
     match flag {

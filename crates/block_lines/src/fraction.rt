@@ -1,6 +1,7 @@
 // The line of the fraction.
 ghost use mathlib.Core.Path.{_≡_};
 ghost use mathlib.Core.List.{[]};
+ghost use Prim.Native.Nat.{_≤_};
 ghost use lib.ListN.{getD};
 ghost use Rattle.forms.specs.Block.{fractionLine};
 ghost use Rattle.forms.specs.Fields.Fraction.{fractionChoice};
@@ -37,7 +38,7 @@ pub fn read_fraction(s: &[u8], before: State) -> Found
 }
 
 pub fn write_fraction(r: Record, out: &mut [u8]) -> usize
-    ensures { λ n. ⌜ Laid (getD fractionLine (fractionChoice (r .fraction)) []) (encode r) n (now (out .entry)) (now (out .exit)) ⌝ }
+    ensures { λ n. ⌜ Laid (getD fractionLine (fractionChoice (r .fraction)) []) (encode r) n (now (out .entry)) (now (out .exit)) × (n ≤ 17) ⌝ }
 {
     let fraction = r.fraction;
     match fraction {

@@ -83,7 +83,7 @@ fn put_offset(r: Record, out: &mut [u8]) -> usize
 }
 
 pub fn write_offset(r: Record, out: &mut [u8]) -> usize
-    ensures { λ n. ⌜ Laid (getD offsetLine (offsetChoice (r .offset)) []) (encode r) n (now (out .entry)) (now (out .exit)) ⌝ }
+    ensures { λ n. ⌜ Laid (getD offsetLine (offsetChoice (r .offset)) []) (encode r) n (now (out .entry)) (now (out .exit)) × (n ≤ 14) ⌝ }
 {
     let offset = r.offset;
     match offset {

@@ -124,7 +124,7 @@ fn put_position(r: Record, out: &mut [u8]) -> usize
 }
 
 pub fn write_position(r: Record, out: &mut [u8]) -> usize
-    ensures { λ n. ⌜ Laid (getD positionLine (positionChoice (r .position)) []) (encode r) n (now (out .entry)) (now (out .exit)) ⌝ }
+    ensures { λ n. ⌜ Laid (getD positionLine (positionChoice (r .position)) []) (encode r) n (now (out .entry)) (now (out .exit)) × (n ≤ 34) ⌝ }
 {
     let position = r.position;
     match position {

@@ -1,6 +1,7 @@
 // The line of the time.
 ghost use mathlib.Core.Path.{_≡_};
 ghost use mathlib.Core.List.{[]};
+ghost use Prim.Native.Nat.{_≤_};
 ghost use lib.ListN.{getD};
 ghost use Rattle.forms.specs.Block.{timeLine};
 ghost use Rattle.forms.specs.Places.{shape};
@@ -35,7 +36,7 @@ pub fn read_time(s: &[u8], before: State) -> Found
 }
 
 pub fn write_time(r: Record, out: &mut [u8]) -> usize
-    ensures { λ n. ⌜ Laid (getD timeLine 0 []) (encode r) n (now (out .entry)) (now (out .exit)) ⌝ }
+    ensures { λ n. ⌜ Laid (getD timeLine 0 []) (encode r) n (now (out .entry)) (now (out .exit)) × (n ≤ 14) ⌝ }
 {
     spelling::put_bytes(out, 0, b"time=");
     places::put_pairs(out, 5, b':', r.hour, r.minute, r.second);

@@ -1,7 +1,6 @@
-pub mod Rule
 pub mod Months
 pub mod Count
+pub mod Rule
 pub mod Ranges
-pub mod Search
 pub mod DayOfYear
 pub mod Values

@@ -1,28 +1,42 @@
--- The rule of the month table: each entry plus its month's length gives the next. One computed test shows it for a whole table.
-use Rattle.cond.proofs.Kit.{[], _&&_, _+_, _<_, _∙_, _∷_, _≡_, add-suc, add-zero, ap, Bool, eqb, eqb-true, false, getD, le-of-suc-le-suc, length, List}
-use Rattle.cond.proofs.Kit.{not-suc-le-zero, refl, suc, suc-add, T, true, zero, zero-add, ℕ}
-use Rattle.cond.proofs.Tests.{both}
-use Rattle.calendar.specs.Calendar.{firstDay, lengthAt}
+-- The rule of the month table: each entry plus its month's length gives the next. One test, computed over each row of the code, shows it.
+use Rattle.cond.proofs.Kit.{_*_, _+_, _-_, _<_, _∙_, _≡_, _≤_, add-suc, add-zero, arith, getD, le-of-suc-le-suc, List, not-suc-le-zero, suc, suc-add, zero, ℕ}
+use Rattle.calendar.specs.Calendar.{daysThrough, firstDay, firstDays, monthLength, yearRow}
+use Rattle.calendar.proofs.Count.{months-through}
+use Rattle.calendar.proofs.Months.{through-month}
 
--- the first entry is d, the days before month k, and each next one is later by the month between
-abbrev pub chain : ℕ → ℕ → List ℕ → Bool
-chain k d [] = true
-chain k d (x ∷ xs) = eqb x d && chain (suc k) (x + lengthAt k) xs
+-- the test is the second equation: a row that is what the rule computes for year k has the days before the months of year k
+pub rule : (y k : ℕ) (xs : List ℕ) → y ≡ k → xs ≡ firstDays 12 (k * 12) (firstDay (k * 12)) → xs ≡ yearRow y
+unfolding yearRow
+rule y k xs e t = rw e t
 
-from : (xs : List ℕ) (i d : ℕ) → d ≡ firstDay i → chain i d xs ≡ true → (k : ℕ) → k < length xs → getD xs k 0 ≡ firstDay (i + k)
-unfolding firstDay
-from [] i d e t k h = absurd (not-suc-le-zero h)
-from (x ∷ xs) i d e t zero h = rw add-zero (eqb-true x d (both (eqb x d) _ t .0) ∙ e)
-from (x ∷ xs) i d e t (suc k) h =
-    let p = both (eqb x d) _ t in
-    let n = ap (λ (z : ℕ). z + lengthAt i) (eqb-true x d (p .0) ∙ e) in
-    from xs (suc i) (x + lengthAt i) n (p .1) k (le-of-suc-le-suc h) ∙ rw (suc-add, add-suc)
+-- what is none of the first n numbers is no less than n
+abbrev NoneOf : ℕ → ℕ → Type 0
+NoneOf zero y = Unit
+NoneOf (suc n) y = NoneOf n y × (y ≡ n → ⊥)
 
-T-true : (b : Bool) → T b → b ≡ true
-T-true true t = refl
-T-true false t = absurd t
+pub none-of : (n y : ℕ) → NoneOf n y → n ≤ y
+none-of zero y h = omega arith
+none-of (suc n) y h = omega (arith, none-of n y (h .0), h .1)
 
--- a table that passes the test has the days before month k at k
-pub rule : (xs : List ℕ) (k : ℕ) → k < length xs → T (chain 0 0 xs) → getD xs k 0 ≡ firstDay k
-unfolding firstDay
-rule xs k h t = from xs 0 0 refl (T-true _ t) k h ∙ ap firstDay (zero-add k)
+entry : (n k i : ℕ) → i < n → getD (firstDays n k (firstDay k)) i 0 ≡ firstDay (k + i)
+unfolding firstDay firstDays
+entry zero k i h = absurd (not-suc-le-zero h)
+entry (suc n) k zero h = rw add-zero
+entry (suc n) k (suc i) h = entry n (suc k) i (le-of-suc-le-suc h) ∙ rw (suc-add, add-suc)
+
+-- the entry of a month in its year's row
+pub row-at : {xs : List ℕ} (y m : ℕ) → xs ≡ yearRow y → (1 ≤ m) × (m ≤ 12) → getD xs (m - 1) 0 ≡ firstDay (y * 12 + (m - 1))
+unfolding yearRow
+row-at y m e h = rw e (entry 12 (y * 12) (m - 1) (omega arith))
+
+-- what lies between the first entry and another is the months before that
+pub row-through : {xs : List ℕ} (y m : ℕ) → xs ≡ yearRow y → (1 ≤ m) × (m ≤ 12) → getD xs (m - 1) 0 ≡ getD xs 0 0 + daysThrough y (m - 1)
+unfolding daysThrough
+row-through y m e h =
+    omega (arith, row-at y m e h ∙ months-through y (m - 1) (omega arith), row-at y 1 e (omega arith) ∙ months-through y 0 (omega arith))
+
+-- what lies between two entries is the month of the first
+pub row-between : {xs : List ℕ} (y m : ℕ) → xs ≡ yearRow y → (1 ≤ m) × (m ≤ 12) → (m ≡ 12 → ⊥) → getD xs (m + 1 - 1) 0 ≡ getD xs (m - 1) 0 + monthLength y m
+row-between y m e h n =
+    let s : m + 1 - 1 ≡ m = omega arith in
+    rw s (omega (arith, rw s at (row-through y (m + 1) e (omega arith)), row-through y m e h, through-month y m (h .0)))

@@ -1,8 +1,7 @@
 // The Gregorian calendar of the years 2000 to 2099. Every function answers for all numbers: what is no date is said to be none.
 ghost use mathlib.Core.Path.{_≡_};
 ghost use mathlib.Core.Bool.{true};
-ghost use Prim.Native.Nat.{_<_};
-ghost use Rattle.calendar.specs.Calendar.{dayNumber, dayOfYear, isDate, isLeap, isMonth, monthDays, monthLength};
+ghost use Rattle.calendar.specs.Calendar.{dayNumber, dayOfYear, isDate, isMonth, monthLength};
 ghost use Rattle.calendar.specs.Answers.{dateOfDay, dayNumberIn, dayOfYearIn, weekdayIn};
 
 mod table;
@@ -19,13 +18,6 @@ pub enum MonthDay {
     NoSuchDate,
 }
 
-// Whether a year of the Gregorian calendar has 29 February.
-fn is_leap(year: u32) -> bool
-    ensures { λ r. ⌜ r ≡ isLeap year ⌝ }
-{
-    (year % 4 == 0) & (!(year % 100 == 0) | (year % 400 == 0))
-}
-
 // Whether the calendar has month `m` of the year 2000 + `y`.
 fn is_month(y: u32, m: u32) -> bool
     ensures { λ r. ⌜ r ≡ isMonth y m ⌝ }
@@ -33,36 +25,30 @@ fn is_month(y: u32, m: u32) -> bool
     (y < 100) & ((1 <= m) & (m <= 12))
 }
 
-// The days of month `m`, 1 January to 12 December, of the year 2000 + `y`.
-fn month_days(y: u32, m: u32) -> u32
-    requires { ⌜ y < 100 ⌝ }
-    ensures { λ r. ⌜ r ≡ monthDays y m ⌝ }
-{
-    if m == 2 {
-        if is_leap(2000 + y) {
-            return 29;
-        }
-        return 28;
-    }
-    if (m == 4) | ((m == 6) | ((m == 9) | (m == 11))) {
-        30
-    } else {
-        31
-    }
-}
-
-// The days of month `m` of the year 2000 + `y`, and 0 for a month that the calendar does not have.
+// The days of month `m` of the year 2000 + `y`, and 0 for a month that the calendar does not have: what lies between two entries of the
+// table. December is the last of its row.
 pub fn month_length(y: u32, m: u32) -> u32
     ensures { λ r. ⌜ r ≡ monthLength y m ⌝ }
 {
-    if is_month(y, m) { month_days(y, m) } else { 0 }
+    if !is_month(y, m) {
+        return 0;
+    }
+    if m == 12 {
+        return 31;
+    }
+    let row = table::row(y);
+    table::entry(row, m + 1) - table::entry(row, m)
 }
 
 // Whether the calendar has day `d` of month `m` of the year 2000 + `y`.
 pub fn is_date(y: u32, m: u32, d: u32) -> bool
     ensures { λ r. ⌜ r ≡ isDate y m d ⌝ }
 {
-    (1 <= d) & (d <= month_length(y, m))
+    // Every month has 28 days, so only a later day needs a look at the table, and the test is short enough to be inlined.
+    if d <= 28 {
+        return (1 <= d) & is_month(y, m);
+    }
+    d <= month_length(y, m)
 }
 
 // The days from 1 January 2000 to a date of the calendar.
@@ -70,7 +56,7 @@ fn number_of(y: u32, m: u32, d: u32) -> u32
     requires { ⌜ isDate y m d ≡ true ⌝ }
     ensures { λ r. ⌜ r ≡ dayNumber y m d ⌝ }
 {
-    table::first_of(y, m) + (d - 1)
+    table::entry(table::row(y), m) + (d - 1)
 }
 
 // The day of the year of a date of the calendar: what lies between two entries of the table, and the day.
@@ -78,8 +64,8 @@ fn day_in_year(y: u32, m: u32, d: u32) -> u32
     requires { ⌜ isDate y m d ≡ true ⌝ }
     ensures { λ r. ⌜ r ≡ dayOfYear y m d ⌝ }
 {
-    let before = table::first_of(y, m) - table::first_of(y, 1);
-    before + d
+    let row = table::row(y);
+    table::entry(row, m) - table::entry(row, 1) + d
 }
 
 // The days from 1 January 2000 to a date, where there is one.
@@ -117,25 +103,28 @@ pub fn day_of_year(y: u32, m: u32, d: u32) -> Day
     }
 }
 
-// The date of day `n` of the year 2000 + `y`.
+// The date of day `n` of the year 2000 + `y`: it falls into the last month that has fewer days of the year before it.
 pub fn date_of_day(y: u32, n: u32) -> MonthDay
     ensures { λ r. ⌜ r ≡ dateOfDay y n ⌝ }
 {
-    let mut m: u32 = 1;
-    let mut left = n;
-    while m <= 12 {
-        let days = month_length(y, m);
-        if left <= days {
-            if 1 <= left {
-                return MonthDay::On {
-                    month: m,
-                    day: left,
-                };
-            }
-            return MonthDay::NoSuchDate;
+    if 100 <= y {
+        return MonthDay::NoSuchDate;
+    }
+    let row = table::row(y);
+    let january = table::entry(row, 1);
+    if table::entry(row, 12) - january + 31 < n {
+        return MonthDay::NoSuchDate;
+    }
+    let mut m: u32 = 12;
+    while 1 <= m {
+        let before = table::entry(row, m) - january;
+        if before < n {
+            return MonthDay::On {
+                month: m,
+                day: n - before,
+            };
         }
-        left -= days;
-        m += 1;
+        m -= 1;
     }
     MonthDay::NoSuchDate
 }

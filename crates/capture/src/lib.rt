@@ -15,6 +15,8 @@ use record::Fraction;
 use record::Record;
 use record::answer::Reading;
 use record::answer::Writing;
+use record::range::channel_in_range;
+use record::range::fraction_in_range;
 use record::refusal::Refusal;
 
 fn has_shape(s: &[u8]) -> bool
@@ -50,20 +52,22 @@ fn decode(s: &[u8]) -> Record
     }
 }
 
-// A wrong length or first byte is refused before anything else is looked at.
 pub fn read(s: &[u8]) -> Reading
     ensures { λ r. ⌜ r ≡ readBy capture (now (s .entry)) ⌝ }
 {
     if s.len() != 31 {
         return Reading::Refused(Refusal::WrongLength);
     }
-    if s[0] != b'C' {
-        return Reading::Refused(Refusal::WrongByte);
-    }
     if !has_shape(s) {
         return Reading::Refused(Refusal::WrongByte);
     }
-    places::validate(decode(s))
+    let r = decode(s);
+    let fraction = r.fraction;
+    let channel = r.channel;
+    if !(r.date_time_in_range() & (fraction_in_range(fraction) & channel_in_range(channel))) {
+        return Reading::Refused(Refusal::OutOfRange);
+    }
+    Reading::Read(r)
 }
 
 // Thousandths do not serve: a fraction is never converted.

@@ -44,20 +44,25 @@ fn decode(s: &[u8]) -> Record
     }
 }
 
-// A wrong length or first byte is refused before anything else is looked at.
 pub fn read(s: &[u8]) -> Reading
     ensures { λ r. ⌜ r ≡ readBy computime (now (s .entry)) ⌝ }
 {
     if s.len() != 24 {
         return Reading::Refused(Refusal::WrongLength);
     }
-    if s[0] != b'T' {
-        return Reading::Refused(Refusal::WrongByte);
-    }
     if !has_shape(s) {
         return Reading::Refused(Refusal::WrongByte);
     }
-    places::validate_on(decode(s), places::number_at(s, 11, 2))
+    let r = decode(s);
+    let date = r.date;
+    let weekday = places::number_at(s, 11, 2);
+    if !(r.date_time_in_range() & places::is_weekday(weekday)) {
+        return Reading::Refused(Refusal::OutOfRange);
+    }
+    if !places::falls_on(date, weekday) {
+        return Reading::Refused(Refusal::Disagreement);
+    }
+    Reading::Read(r)
 }
 
 fn has_carried(r: Record) -> bool

@@ -1,26 +1,26 @@
 -- What the tests of a Uni Erlangen string come to.
 use Rattle.spelling.specs.Spelling.{valueOf, words}
-use Rattle.cond.proofs.Kit.{[], _&&_, _||_, _∙_, _∷_, _≡_, and-true, ap, arith, Bool, drop, eqb, getD, length, List, ltb, ne-eqb, not, refl, sym, take, true, ℕ}
+use Rattle.cond.proofs.Kit.{[], _&&_, _||_, _∙_, _∷_, _≡_, and-true, ap, arith, Bool, drop, eqb, false, getD, length, List, ltb, ne-eqb, not, refl, sym, take, true, ℕ}
 use Rattle.cond.specs.Pick.{oneIf}
 use Rattle.spelling.specs.Bytes.{letters, sameBytes}
 use Rattle.record.specs.declared.Record.{Record}
-use Rattle.record.specs.Record.{zoneAgrees}
+use Rattle.record.specs.Record.{dateTimeInRange, inRange, restInRange, zoneAgrees}
 use Rattle.forms.specs.Carries.{carriesOf}
+use Rattle.forms.specs.Fields.Date.{weekdayInRange}
 use Rattle.forms.specs.Fields.Flag.{decodeFlag}
 use Rattle.forms.specs.Fields.Offset.{inMinutes, decodeMinutes}
 use Rattle.forms.specs.Fields.Position.{decodeLatitude, decodeLongitude}
 use Rattle.forms.specs.Fields.Time.{leapConsistent, secondsConsistent}
-use Rattle.forms.specs.Form.{carries, numbersInRange, readBy, signsConsistent, valuesBy}
+use Rattle.forms.specs.Form.{carries, numbersInRange, signsConsistent, valuesBy}
 use Rattle.forms.specs.Places.{has, shape, values}
 use Rattle.forms.specs.Serial.{erlangen, erlangenLayout}
 use Rattle.forms.specs.Slots.{offsetMinutes, second, weekday}
 use Rattle.forms.specs.Decode.{decode}
-use Rattle.forms.proofs.Accepted.{read-validated}
 use Rattle.forms.proofs.Tests.{no-checksum}
-use Rattle.places.specs.Validated.{verdictOn}
+use Rattle.places.specs.Weekday.{fallsOn}
 use Rattle.places.proofs.Letters.{letter-of, same-byte}
 use Rattle.places.proofs.Signed.{sign-consistent}
-use Rattle.places.proofs.Validated.{validated-on, restConsistent}
+use Rattle.places.proofs.Validated.{Ends, ends, restConsistent, validated-on}
 
 module _ (s : List ℕ) where
   -- the string tells no TFOM and no deleted second
@@ -33,19 +33,15 @@ module _ (s : List ℕ) where
   unfolding carriesOf has secondsConsistent zoneAgrees decodeFlag
   rest-of = simp and-true
 
-  pub reads : length s ≡ 66 → shape erlangenLayout 0 s ≡ true → (r : Record) (n : ℕ) (a b : Bool) → r ≡ decode (carries erlangen) (valuesBy erlangen s)
-      → n ≡ valuesBy erlangen s weekday → a ≡ ltb (valuesBy erlangen s offsetMinutes) 60
-      → b ≡ (leapConsistent true (valuesBy erlangen s) && signsConsistent inMinutes (valuesBy erlangen s)) → verdictOn r n a b ≡ readBy erlangen s
-  unfolding has
-  reads l h r n a b e f p q =
-      let v = valuesBy erlangen s in
-      let d : Record = decode (carries erlangen) v in
-      ap (λ (x : Record). verdictOn x n a b) e
-      ∙ ap (λ (x : ℕ). verdictOn d x a b) f
-      ∙ ap (λ (x : Bool). verdictOn d (v weekday) x b) (p ∙ sym numbers-of)
-      ∙ ap (λ (x : Bool). verdictOn d (v weekday) (numbersInRange v) x) (q ∙ sym rest-of)
-      ∙ validated-on erlangen s refl refl
-      ∙ sym (read-validated erlangen s l h (no-checksum _ _))
+  module _ (l : length s ≡ 66) (t : Bool) (h : t ≡ shape erlangenLayout 0 s) (u : not t ≡ false) (r : Record) (e : r ≡ decode (carries erlangen) (valuesBy erlangen s)) (n : ℕ) (f : n ≡ valuesBy erlangen s weekday) where
+    -- a to d tell the ranges, and x to z what is told twice
+    pub reads : (a b c d x y z : Bool) → a ≡ dateTimeInRange r → b ≡ restInRange r → c ≡ weekdayInRange true n → d ≡ ltb (valuesBy erlangen s offsetMinutes) 60
+        → x ≡ fallsOn (r .date) n → y ≡ leapConsistent true (valuesBy erlangen s) → z ≡ signsConsistent inMinutes (valuesBy erlangen s)
+        → Ends erlangen s r ((a && b) && (c && d)) (x && (y && z))
+    unfolding has inRange
+    reads a b c d x y z i j k m o p q =
+        ends erlangen s l t h u (no-checksum _ _) r ((a && b) && (c && d)) (x && (y && z))
+        (rw (i, j, k, m, o, p, q, e, f, ← numbers-of, ← rest-of) (validated-on erlangen s refl refl))
 
   module _ (l : length s ≡ 66) where
     -- `L` in second 60, and a space in any other

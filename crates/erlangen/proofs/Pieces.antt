@@ -23,14 +23,16 @@ abbrev behindTime : Layout
 behindTime = timeLayout ++ behindOffset
 
 pub shape-pieces : (s : List ℕ)
-    → shape erlangenLayout 0 s ≡ (shape dateLayout 0 s && (shape timeLayout 14 s && (shape offsetLayout 24 s && (shape flagsLayout 32 s && (shape leapLayout 37 s && shape positionLayout 40 s)))))
+    → shape erlangenLayout 0 s ≡ (shape dateLayout 0 s && (shape timeLayout 14 s && (shape offsetLayout 24 s && (shape flagsLayout 32 s && (shape leapLayout 37 s && (shape latitudeLayout 40 s && (shape longitudeLayout 50 s && shape altitudeLayout 60 s)))))))
 unfolding layoutWidth
 shape-pieces s =
     shape-append dateLayout behindTime 0 s
     ∙ ap (λ t. shape dateLayout 0 s && t) (shape-append timeLayout behindOffset 14 s
     ∙ ap (λ t. shape timeLayout 14 s && t) (shape-append offsetLayout behindFlags 24 s
     ∙ ap (λ t. shape offsetLayout 24 s && t) (shape-append flagsLayout behindLeap 32 s
-    ∙ ap (λ t. shape flagsLayout 32 s && t) (shape-append leapLayout positionLayout 37 s))))
+    ∙ ap (λ t. shape flagsLayout 32 s && t) (shape-append leapLayout positionLayout 37 s
+    ∙ ap (λ t. shape leapLayout 37 s && t) (shape-append latitudeLayout (longitudeLayout ++ altitudeLayout) 40 s
+    ∙ ap (λ t. shape latitudeLayout 40 s && t) (shape-append longitudeLayout altitudeLayout 50 s))))))
 
 pub stores-pieces : (v : Values) (o : List ℕ)
     → stores erlangenLayout 0 v o ≡ stores positionLayout 40 v (stores leapLayout 37 v (stores (drop 2 flagsLayout) 34 v (stores (take 2 flagsLayout) 32 v (stores offsetLayout 24 v (stores timeLayout 14 v (stores dateLayout 0 v o))))))

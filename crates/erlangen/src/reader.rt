@@ -17,6 +17,8 @@ use record::Offset;
 use record::Position;
 use record::Record;
 use record::answer::Reading;
+use record::range::offset_in_range;
+use record::range::position_in_range;
 use record::refusal::Refusal;
 
 fn date_at(s: &[u8]) -> Date
@@ -72,24 +74,28 @@ fn decode(s: &[u8]) -> Record
     }
 }
 
-// A wrong length or first byte is refused before anything else is looked at. Beside the weekday the minutes of the offset have
-// a range, and `L` and the signs are told twice.
+// Beside the weekday the minutes of the offset have a range, and `L` and the signs are told twice.
 pub fn read(s: &[u8]) -> Reading
     ensures { λ r. ⌜ r ≡ readBy erlangen (now (s .entry)) ⌝ }
 {
     if s.len() != 66 {
         return Reading::Refused(Refusal::WrongLength);
     }
-    if s[0] != 2 {
-        return Reading::Refused(Refusal::WrongByte);
-    }
     if !has_shape(s) {
         return Reading::Refused(Refusal::WrongByte);
     }
-    places::validate_with(
-        decode(s),
-        places::number_at(s, 11, 1),
-        places::number_at(s, 28, 2) < 60,
-        leap_agrees(s) & signs_agree(s),
-    )
+    let r = decode(s);
+    let date = r.date;
+    let offset = r.offset;
+    let position = r.position;
+    let weekday = places::number_at(s, 11, 1);
+    let minutes = places::number_at(s, 28, 2);
+    let in_range = r.date_time_in_range() & (offset_in_range(offset) & position_in_range(position));
+    if !(in_range & (places::is_weekday(weekday) & (minutes < 60))) {
+        return Reading::Refused(Refusal::OutOfRange);
+    }
+    if !(places::falls_on(date, weekday) & (leap_agrees(s) & signs_agree(s))) {
+        return Reading::Refused(Refusal::Disagreement);
+    }
+    Reading::Read(r)
 }

@@ -2,8 +2,7 @@
 ghost use mathlib.Core.Path.{_≡_};
 ghost use Rattle.forms.specs.Places.{shape};
 ghost use Rattle.forms.specs.Serial.{erlangenLayout};
-ghost use Rattle.erlangen.specs.Degrees.{degreesAt};
-ghost use Rattle.erlangen.specs.Layouts.{dateLayout, flagsLayout, leapLayout, offsetLayout, positionLayout, timeLayout};
+ghost use Rattle.erlangen.specs.Layouts.{altitudeLayout, dateLayout, flagsLayout, latitudeLayout, leapLayout, longitudeLayout, offsetLayout, timeLayout};
 
 // `<STX>dd.mm.yy; w; `
 fn is_date(s: &[u8]) -> bool
@@ -52,31 +51,44 @@ fn is_leap_second(s: &[u8]) -> bool
     places::is_at(s, 37, b' ') & places::letter_at(s, 38, b" L") & places::is_at(s, 39, b';')
 }
 
-// Padded degrees, a point, four digits and one of two letters.
-fn is_degrees(s: &[u8], at: u32, choices: &[u8]) -> bool
-    ensures { λ r. ⌜ r ≡ degreesAt (now (s .entry)) at (now (choices .entry)) ⌝ }
+// `bbb.bbbbn `
+fn is_latitude(s: &[u8]) -> bool
+    ensures { λ r. ⌜ r ≡ shape latitudeLayout 40 (now (s .entry)) ⌝ }
 {
-    let k = at as usize;
-    places::padded_at(s, k, 3)
-        & places::is_at(s, k + 3, b'.')
-        & places::digits_at(s, k + 4, 4)
-        & places::letter_at(s, k + 8, choices)
+    places::padded_at(s, 40, 3)
+        & places::is_at(s, 43, b'.')
+        & places::digits_at(s, 44, 4)
+        & places::letter_at(s, 48, b"NS")
+        & places::is_at(s, 49, b' ')
 }
 
-// `bbb.bbbbn lll.lllle hhhhm<ETX>`
-fn is_position(s: &[u8]) -> bool
-    ensures { λ r. ⌜ r ≡ shape positionLayout 40 (now (s .entry)) ⌝ }
+// `lll.lllle `
+fn is_longitude(s: &[u8]) -> bool
+    ensures { λ r. ⌜ r ≡ shape longitudeLayout 50 (now (s .entry)) ⌝ }
 {
-    is_degrees(s, 40, b"NS")
-        & places::is_at(s, 49, b' ')
-        & is_degrees(s, 50, b"EW")
+    places::padded_at(s, 50, 3)
+        & places::is_at(s, 53, b'.')
+        & places::digits_at(s, 54, 4)
+        & places::letter_at(s, 58, b"EW")
         & places::is_at(s, 59, b' ')
-        & places::padded_at(s, 60, 4)
-        & places::text_at(s, 64, b"m\x03")
+}
+
+// `hhhhm<ETX>`
+fn is_altitude(s: &[u8]) -> bool
+    ensures { λ r. ⌜ r ≡ shape altitudeLayout 60 (now (s .entry)) ⌝ }
+{
+    places::padded_at(s, 60, 4) & places::text_at(s, 64, b"m\x03")
 }
 
 pub(crate) fn has_shape(s: &[u8]) -> bool
     ensures { λ r. ⌜ r ≡ shape erlangenLayout 0 (now (s .entry)) ⌝ }
 {
-    is_date(s) & is_time(s) & is_offset(s) & are_flags(s) & is_leap_second(s) & is_position(s)
+    is_date(s)
+        & is_time(s)
+        & is_offset(s)
+        & are_flags(s)
+        & is_leap_second(s)
+        & is_latitude(s)
+        & is_longitude(s)
+        & is_altitude(s)
 }

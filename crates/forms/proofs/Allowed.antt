@@ -1,6 +1,5 @@
 -- Which bytes a layout can hold: a test of every byte that its places allow holds of every string that it writes.
-use Rattle.cond.proofs.Kit.{[], _%_, _&&_, _++_, _/_, _<_, _^_, _∷_, _≡_, arith, Bool, drop, eqb, false, getD, length, List, lit<, ltb, ltb-false, ltb-true}
-use Rattle.cond.proofs.Kit.{mod-lt, refl, suc, take, true, zero, ℕ}
+use Rattle.cond.proofs.Kit.{[], _%_, _&&_, _++_, _/_, _<_, _^_, _∷_, _≡_, arith, Bool, drop, eqb, false, getD, length, List, lit<, ltb, ltb-false, ltb-true, mod-lt, refl, suc, take, true, zero, ℕ}
 use Rattle.cond.specs.Pick.{pick}
 use Rattle.spelling.specs.Bytes.{Group, allAre, bitsOf, blanked, decimal, digit, digitOf, gap, groupsOf, hexOf, spelledIn}
 use Rattle.forms.specs.Places.{Place, Layout, bytesOf, fixed, part, placed}

@@ -10,7 +10,7 @@ use Rattle.calendar.proofs.DayOfYear.{found-day}
 use Rattle.calendar.proofs.Ranges.{date-range, ordinal-range}
 use Rattle.spelling.specs.Bytes.{allAre, digit, gap, groupsLimit, groupsWidth}
 use Rattle.record.specs.Answers.{readNumber}
-use Rattle.record.specs.Record.{dateInRange, inRange, timeInRange}
+use Rattle.record.specs.Record.{dateInRange, dateTimeInRange, inRange, timeInRange}
 use Rattle.record.specs.declared.answer.Reading.{Reading}
 use Rattle.record.specs.declared.answer.Reading.the-variants as reading
 use Rattle.record.specs.declared.refusal.Refusal.the-variants as refusal
@@ -59,10 +59,11 @@ module _ (s : List ℕ) (l : length s ≡ 100) (h : ranges (carries frame) (valu
   unfolding inRange timeInRange decodeDate carriesOf has
   numbers =
       let v = valuesBy frame s in
-      let a = both (timeInRange (v hour) (v minute) (v second)) _ inside in
-      let b = both (ltb (v hour) 24) _ (a .0) in
+      let a = both (dateTimeInRange (decode (carries frame) v)) _ inside in
+      let e = both (timeInRange (v hour) (v minute) (v second)) _ (a .0) in
+      let b = both (ltb (v hour) 24) _ (e .0) in
       let c = both (ltb (v minute) 60) _ (b .1) in
-      let d = dated (v year) (v ordinal) (both (dateInRange (dateOn (v year) (dateOfDay (v year) (v ordinal)))) _ (a .1) .0) in
+      let d = dated (v year) (v ordinal) (e .1) in
       record {
         hours = ltb-true (v hour) 24 (b .0);
         minutes = ltb-true (v minute) 60 (c .0);

@@ -1,7 +1,7 @@
 -- A good record tells less than each slot's bound, and what a form carries of it is good.
 use Rattle.cond.proofs.Kit.{_&&_, _<_, _≡_, arith, Bool, false, false≢true, lit<, not, refl, true}
 use Rattle.cond.proofs.Tests.{both, pick-le}
-use Rattle.record.specs.Record.{channelInRange, dateInRange, fractionInRange, inRange, isGood, isYes, offsetInRange, positionInRange, timeInRange, zoneAgrees}
+use Rattle.record.specs.Record.{channelInRange, dateInRange, dateTimeInRange, fractionInRange, inRange, isGood, isYes, offsetInRange, positionInRange, restInRange, timeInRange, zoneAgrees}
 use Rattle.record.specs.declared.Flag.{Flag}
 use Rattle.record.specs.declared.Flag.the-variants as flagIs
 use Rattle.record.specs.declared.Record.{Record}
@@ -35,12 +35,12 @@ pub good : (r : Record) → isGood r ≡ true → Good r
 unfolding isGood inRange zoneAgrees
 good r h =
     let a = both (inRange r) (zoneAgrees r) h in
-    let b = both (timeInRange (r .hour) (r .minute) (r .second)) _ (a .0) in
-    let c = both (dateInRange (r .date)) _ (b .1) in
-    let d = both (fractionInRange (r .fraction)) _ (c .1) in
+    let b = both (dateTimeInRange r) (restInRange r) (a .0) in
+    let c = both (timeInRange (r .hour) (r .minute) (r .second)) (dateInRange (r .date)) (b .0) in
+    let d = both (fractionInRange (r .fraction)) _ (b .1) in
     let e = both (channelInRange (r .channel)) _ (d .1) in
     let f = both (offsetInRange (r .offset)) (positionInRange (r .position)) (e .1) in
-    record { time = b .0; date = c .0; fraction = d .0; channel = e .0; offset = f .0; position = f .1; zoned = a .1 }
+    record { time = c .0; date = c .1; fraction = d .0; channel = e .0; offset = f .0; position = f .1; zoned = a .1 }
 
 pair-lt : (a b : Bool) → not (a && b) ≡ true → pairOf a b < 3
 pair-lt false false h = lit< tt

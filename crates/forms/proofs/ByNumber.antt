@@ -7,6 +7,10 @@ abbrev pub OfEach : (ℕ → FormKind → Type 0) → List Numbered → Type 0
 OfEach P [] = Unit {0}
 OfEach P (e ∷ es) = P (e .number) (e .kind) × OfEach P es
 
+infixr 1 _also_
+pub _also_ : {A B : Type 0} → A → B → A × B
+a also b = (a, b)
+
 pub by-number : (P : ℕ → FormKind → Type 0) (es : List Numbered) → OfEach P es → ((n : ℕ) → P n unknown) → (n : ℕ) → P n (formKindOf es n)
 unfolding formKindOf
 by-number P [] h u n = u n

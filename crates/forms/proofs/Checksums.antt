@@ -1,8 +1,8 @@
 -- A checksum over bytes that tell none does not see any, and stays below its limit.
-use Rattle.cond.proofs.Kit.{[], _&&_, _++_, _+_, _-_, _<_, _||_, _∙_, _∷_, _≡_, ap, arith, Bool, drop, drop-at, drop-drop, eqb, eqb-true, false, leb}
-use Rattle.cond.proofs.Kit.{leb-true, length, List, ltb, ltb-true, not, not-true, refl, suc, suc-add, sym, take, take-nil, true, zero, zero-add, ℕ, ⊎-elim}
+use Rattle.cond.proofs.Kit.{[], _&&_, _++_, _+_, _-_, _<_, _||_, _∙_, _∷_, _≡_, ap, arith, Bool, drop, drop-at, drop-drop, eqb, eqb-true, false, leb, leb-true, length, List, ltb, ltb-true, not, not-true, refl, suc, sym, take, true, zero, ℕ, ⊎-elim}
 use lib.Bits.{bitXor, xor-lt}
 use Rattle.cond.specs.Pick.{pick}
+use Rattle.cond.proofs.Parts.{drop-take}
 use Rattle.cond.proofs.Tests.{both, either, or-left, or-right}
 use Rattle.spelling.specs.Bytes.{allAre, xorFrom}
 use Rattle.spelling.specs.Spelling.{spell}
@@ -23,11 +23,6 @@ take-app (suc n) [] b =
 take-app (suc n) (x ∷ a) b =
     let e : n - length a ≡ suc n - suc (length a) = omega arith in
     ap (λ (t : List ℕ). x ∷ t) (take-app n a b ∙ ap (λ (k : ℕ). take n a ++ take k b) e)
-
-pub take-drop : (a n : ℕ) (s : List ℕ) → take n (drop a s) ≡ drop a (take (a + n) s)
-take-drop zero n s = ap (λ (k : ℕ). take k s) (sym (zero-add n))
-take-drop (suc a) n [] = take-nil n ∙ sym (ap (drop (suc a)) (take-nil (suc a + n)))
-take-drop (suc a) n (x ∷ s) = take-drop a n s ∙ sym (ap (λ (k : ℕ). drop (suc a) (take k (x ∷ s))) (suc-add a n))
 
 -- the place tells no checksum
 abbrev pub uncheckedPlace : Place → Bool
@@ -100,7 +95,7 @@ module _ (v w : Values) where
           ap (λ (j : ℕ). drop j (placed p u ++ bytesOf ps u)) z ∙ sym (drop-drop (m - width p) (width p) (placed p u ++ bytesOf ps u))
           ∙ ap (drop (m - width p)) (drop-at (placed p u) (bytesOf ps u) (width p) k) in
           ap (take n) (past v (placed-length p v (a .0) (b .0))) ∙ i (a .1) (b .1) (c .1) h ∙ sym (ap (take n) (past w (placed-length p w (a .0) (c .0))))
-      go false q h i = take-drop m n _ ∙ ap (drop m) (front-alike (p ∷ ps) (m + n) e s x y h) ∙ sym (take-drop m n _)
+      go false q h i = sym (drop-take m n _) ∙ ap (drop m) (front-alike (p ∷ ps) (m + n) e s x y h) ∙ drop-take m n _
 
 abbrev pub isByte : ℕ → Bool
 isByte b = ltb b 256

@@ -1,7 +1,6 @@
 -- Which bytes a layout admits at each place, and layouts that cannot fit the same bytes: somewhere one has a fixed byte that the
 -- other does not admit.
-use Rattle.cond.proofs.Kit.{[], _&&_, _+_, _-_, _<_, _||_, _∙_, _∷_, _≡_, _≤_, ap, arith, Bool, drop, eq-eqb, eqb, eqb-true, false, false≢true, getD, getD-drop, getD-take, le-leb, leb}
-use Rattle.cond.proofs.Kit.{leb-true, length, length-drop, length-take, List, ltb, ltb-false, ltb-true, not, not-true, refl, suc, sym, take, true, zero, ℕ, ⊎-elim}
+use Rattle.cond.proofs.Kit.{[], _&&_, _+_, _-_, _<_, _||_, _∙_, _∷_, _≡_, _≤_, ap, arith, Bool, drop, eq-eqb, eqb, eqb-true, false, false≢true, getD, getD-drop, getD-take, le-leb, leb, leb-true, length, length-drop, length-take, List, ltb, ltb-false, ltb-true, not, not-true, refl, suc, sym, take, true, zero, ℕ, ⊎-elim}
 use Rattle.cond.specs.Pick.{pick}
 use Rattle.cond.proofs.Tests.{both, both-hold, either, or-right}
 use Rattle.spelling.specs.Bytes.{areDigits, arePadded, isBit, isDigit, isHex, isWord, sameBytes}

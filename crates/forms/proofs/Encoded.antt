@@ -102,40 +102,26 @@ module _ (ps : Layout) (c : Complete ps) (v : Values) (z : Read ps v) where
 -- all that is carried is there, and nothing else
 
 module _ (k : Carries) (v : Values) where
+  decoded : (hasCarried k (decode k v) ≡ true) × (carriedPart k (decode k v) ≡ decode k v)
+  unfolding hasCarried carriedPart
+  decoded =
+      let a = date-carried (k .date) v in
+      let b = fraction-carried (k .fraction) v in
+      let c = channel-carried (k .channel) v in
+      let d = flag-carried (k .sync) (v sync) (v quality) in
+      let e = flag-carried (k .fix) (v fix) 0 in
+      let f = flag-carried (k .utc) (v utc) (v zone) in
+      let g = flag-carried (k .summer) (v summer) (v zone) in
+      let h = flag-carried (k .change) (v change) (v notice) in
+      let i = flag-carried (k .leap) (v leap) (v notice) in
+      let j = offset-carried (isOffset (k .offset)) (v minus) (decodeMinutes (k .offset) v) in
+      let l = position-carried (k .position) v in
+      let m = flag-carried (k .dsp) (v dsp) 0 in
+      let n = flag-carried (k .lsp) (v lsp) 0 in
+      (simp (a .0, b .0, c .0, d .0, e .0, f .0, g .0, h .0, i .0, j .0, l .0, m .0, n .0), simp (a .1, b .1, c .1, d .1, e .1, f .1, g .1, h .1, i .1, j .1, l .1, m .1, n .1))
+
   pub decoded-has : hasCarried k (decode k v) ≡ true
-  unfolding hasCarried
-  decoded-has =
-      simp (
-        date-carried (k .date) v .0,
-        fraction-carried (k .fraction) v .0,
-        channel-carried (k .channel) v .0,
-        flag-carried (k .sync) (v sync) (v quality) .0,
-        flag-carried (k .fix) (v fix) 0 .0,
-        flag-carried (k .utc) (v utc) (v zone) .0,
-        flag-carried (k .summer) (v summer) (v zone) .0,
-        flag-carried (k .change) (v change) (v notice) .0,
-        flag-carried (k .leap) (v leap) (v notice) .0,
-        offset-carried (isOffset (k .offset)) (v minus) (decodeMinutes (k .offset) v) .0,
-        position-carried (k .position) v .0,
-        flag-carried (k .dsp) (v dsp) 0 .0,
-        flag-carried (k .lsp) (v lsp) 0 .0,
-      )
+  decoded-has = decoded .0
 
   pub decoded-carried : carriedPart k (decode k v) ≡ decode k v
-  unfolding carriedPart
-  decoded-carried =
-      simp (
-        date-carried (k .date) v .1,
-        fraction-carried (k .fraction) v .1,
-        channel-carried (k .channel) v .1,
-        flag-carried (k .sync) (v sync) (v quality) .1,
-        flag-carried (k .fix) (v fix) 0 .1,
-        flag-carried (k .utc) (v utc) (v zone) .1,
-        flag-carried (k .summer) (v summer) (v zone) .1,
-        flag-carried (k .change) (v change) (v notice) .1,
-        flag-carried (k .leap) (v leap) (v notice) .1,
-        offset-carried (isOffset (k .offset)) (v minus) (decodeMinutes (k .offset) v) .1,
-        position-carried (k .position) v .1,
-        flag-carried (k .dsp) (v dsp) 0 .1,
-        flag-carried (k .lsp) (v lsp) 0 .1,
-      )
+  decoded-carried = decoded .1

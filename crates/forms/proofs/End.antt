@@ -1,6 +1,5 @@
 -- Every valid string of a form ends with the last byte of its layout.
-use Rattle.cond.proofs.Kit.{[], _++_, _+_, _-_, _<_, _∙_, _∷_, _≡_, append-nil, arith, Bool, false, false≢true, getD, length, length-append, List, ltb}
-use Rattle.cond.proofs.Kit.{ltb-true, refl, subst, suc, true, ℕ}
+use Rattle.cond.proofs.Kit.{[], _++_, _+_, _-_, _<_, _∙_, _∷_, _≡_, append-nil, arith, Bool, false, false≢true, getD, length, length-append, List, ltb, ltb-true, refl, subst, suc, true, ℕ}
 use Rattle.record.specs.declared.Record.{Record}
 use Rattle.record.specs.declared.answer.Reading.the-variants as reading
 use Rattle.forms.specs.Form.{Form, readBy, valuesBy}

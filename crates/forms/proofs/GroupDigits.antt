@@ -1,12 +1,12 @@
 -- The digits of a place in groups are below their base where the place tells a number below its limit: any other digit makes it tell the limit.
-use Rattle.cond.proofs.Kit.{[], _+_, _<_, _∙_, _∷_, _≡_, _≤_, ap, arith, Bool, drop, drop-drop, false, le-leb, leb, length, List, ltb, ltb-true, refl, sym, take, take-take, true, ℕ}
+use Rattle.cond.proofs.Kit.{[], _+_, _<_, _∙_, _∷_, _≡_, _≤_, ap, arith, Bool, drop, drop-drop, false, le-leb, leb, length, List, ltb, ltb-true, refl, take, take-take, true, ℕ}
 use Rattle.cond.specs.Pick.{pick}
+use Rattle.cond.proofs.Parts.{drop-take}
 use Rattle.cond.proofs.Tests.{both, both-hold}
 use Rattle.spelling.specs.Bytes.{Group, allAre, bitsNumber, digit, digitsBelow, gap, groupsLimit, groupsNumber, groupsWidth}
 use Rattle.spelling.specs.Spelling.{grouped, valueOf}
 use Rattle.spelling.proofs.Spelling.{sized-value}
 use Rattle.forms.proofs.Layouts.{piece-length}
-use Rattle.forms.proofs.Checksums.{take-drop}
 
 abbrev pub isDecimal : ℕ → Bool
 isDecimal d = leb d 9
@@ -20,7 +20,7 @@ digitsAt k (gap e ∷ gs) s = digitsAt (k + 1) gs s
 module _ (s : List ℕ) where
   -- what is behind the first w elements of a part
   rest : (k w n : ℕ) → drop w (take (w + n) (drop k s)) ≡ take n (drop (k + w) s)
-  rest k w n = sym (take-drop w n (drop k s)) ∙ ap (take n) (drop-drop w k s)
+  rest k w n = drop-take w n (drop k s) ∙ ap (take n) (drop-drop w k s)
 
   below-digits : (k : ℕ) (gs : List Group) → digitsBelow 10 gs (take (groupsWidth gs) (drop k s)) ≡ true → allAre isDecimal (digitsAt k gs s) ≡ true
   unfolding digitsBelow groupsWidth allAre digitsAt

@@ -1,6 +1,5 @@
 -- A row of places: what it writes is read back, and what it accepts is written again.
-use Rattle.cond.proofs.Kit.{[], _&&_, _++_, _+_, _||_, _∙_, _∷_, _≡_, _≤_, add-comm, ap, append-assoc, arith, Bool, drop, drop-at, drop-drop, drop-length, false, false≢true, length}
-use Rattle.cond.proofs.Kit.{length-append, length-drop, length-take-le, List, not, not-true, refl, sym, take, take-append-drop, take-at, true, ℕ}
+use Rattle.cond.proofs.Kit.{[], _&&_, _++_, _+_, _||_, _∙_, _∷_, _≡_, _≤_, add-comm, ap, append-assoc, arith, Bool, drop, drop-at, drop-drop, drop-length, false, false≢true, length, length-append, length-drop, length-take-le, List, not, not-true, refl, sym, take, take-append-drop, take-at, true, ℕ}
 use Rattle.cond.specs.Pick.{pick}
 use Rattle.cond.proofs.Tests.{both}
 use Rattle.spelling.specs.Spelling.{spell, spelledWidth, valueOf}

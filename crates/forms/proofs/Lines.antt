@@ -1,7 +1,6 @@
 -- Variants chosen line by line: a test of every variant holds of every layout so chosen, and a slot that stands in one line alone is
 -- told by the variant chosen there.
-use Rattle.cond.proofs.Kit.{[], _&&_, _++_, _<_, _||_, _∙_, _∷_, _≡_, ap, arith, Bool, false, false≢true, getD, length, List, ltb, ltb-true, not, not-true}
-use Rattle.cond.proofs.Kit.{refl, suc, sym, true, zero, ℕ}
+use Rattle.cond.proofs.Kit.{[], _&&_, _++_, _<_, _||_, _∙_, _∷_, _≡_, ap, arith, Bool, false, false≢true, getD, length, List, ltb, ltb-true, not, not-true, refl, suc, sym, true, zero, ℕ}
 use Rattle.cond.proofs.Tests.{both}
 use Rattle.forms.specs.Block.{Line, chosenLayout}
 use Rattle.forms.specs.Places.{Layout, hasWords, has}

@@ -1,7 +1,7 @@
 -- One byte replaced by another is refused: over any sound form whose sum runs from its first byte to its own digits.
-use Rattle.cond.proofs.Kit.{[], _&&_, _+_, _<_, _∙_, _∷_, _≡_, _≤_, ap, arith, Bool, drop, drop-set-lt, eqb-true, false, getD, getD-set-same, getD-take, leb, leb-true, length}
-use Rattle.cond.proofs.Kit.{length-set, length-take-le, List, ltb, ltb-false, ltb-true, refl, set, subst, sym, take, take-set-le, take-set-lt, true, ℕ}
+use Rattle.cond.proofs.Kit.{[], _&&_, _+_, _<_, _∙_, _∷_, _≡_, _≤_, ap, arith, Bool, drop, drop-set-lt, eqb-true, false, getD, getD-set-same, getD-take, leb, leb-true, length, length-set, length-take-le, List, ltb, ltb-false, ltb-true, refl, set, subst, sym, take, take-set-le, take-set-lt, true, ℕ}
 use Rattle.cond.specs.Pick.{pick}
+use Rattle.cond.proofs.Parts.{drop-take}
 use Rattle.cond.proofs.Tests.{both}
 use Rattle.spelling.specs.Bytes.{allAre, xorFrom}
 use Rattle.spelling.proofs.Xor.{one-byte}
@@ -13,7 +13,7 @@ use Rattle.forms.specs.Places.{Layout, bytesOf, isOf, valueAt, values, w
 use Rattle.forms.specs.Slots.{Slot, Values, isChecksum, ofChecksum, same, checksum}
 use Rattle.forms.proofs.Accepted.{accepted}
 use Rattle.forms.proofs.Allowed.{all-at, all-take, layout-all}
-use Rattle.forms.proofs.Checksums.{isByte, take-drop}
+use Rattle.forms.proofs.Checksums.{isByte}
 use Rattle.forms.proofs.Complete.{implies}
 use Rattle.forms.proofs.ReadWrite.{own, room}
 use Rattle.forms.proofs.LayoutLimits.{layout-alike}
@@ -100,7 +100,7 @@ module _ (d : Form) (n : ℕ) (s : List ℕ) (i b : ℕ) (u : sumBehind (d .layo
       front : (k w : ℕ) → side n false k w ≡ true → take w (drop k (set s i b)) ≡ take w (drop k s)
       front k w h =
           let l = leb-true (k + w) n h in
-          take-drop k w (set s i b) ∙ ap (drop k) (take-set-le (k + w) s i b (omega arith)) ∙ sym (take-drop k w s)
+          sym (drop-take k w (set s i b)) ∙ ap (drop k) (take-set-le (k + w) s i b (omega arith)) ∙ drop-take k w s
 
       same : (f : Slot) (t : Bool) → isChecksum f ≡ t → valuesBy d (set s i b) f ≡ valuesBy d s f
       same f true e =

@@ -1,7 +1,6 @@
 -- Reading lines: the layout found in the bytes is a chosen layout, and where no two variants of a line fit the same bytes, a chosen
 -- layout that fits them is the layout found.
-use Rattle.cond.proofs.Kit.{[], _&&_, _++_, _+_, _<_, _∙_, _∷_, _≡_, _≤_, ap, ap₂, arith, Bool, false, false≢true, getD, length, List, lt-ltb, ltb, ltb-true}
-use Rattle.cond.proofs.Kit.{refl, suc, sym, true, zero, ℕ}
+use Rattle.cond.proofs.Kit.{[], _&&_, _++_, _+_, _<_, _∙_, _∷_, _≡_, _≤_, ap, ap₂, arith, Bool, false, false≢true, getD, length, List, lt-ltb, ltb, ltb-true, refl, suc, sym, true, zero, ℕ}
 use Rattle.cond.specs.Pick.{pick}
 use Rattle.cond.proofs.Tests.{both, both-hold}
 use Rattle.forms.specs.Block.{Line, chosenLayout, variantAt, layoutAt}

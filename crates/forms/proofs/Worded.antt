@@ -1,32 +1,28 @@
 -- The words of each layout are counted: all have one for every good record, but for the letter that change and leap share in form 1 and the
 -- half hour of form 8.
-use Rattle.cond.proofs.Kit.{_%_, _&&_, _*_, _+_, _∙_, _≡_, and-true, arith, Bool, eq-eqb, eqb, eqb-false, eqb-true, false, ltb, ne-eqb, not, or-false, refl, sym, true, ℕ}
+use Rattle.cond.proofs.Kit.{_%_, _&&_, _*_, _+_, _≡_, arith, Bool, eq-eqb, eqb, eqb-false, eqb-true, false, ltb, ne-eqb, not, refl, sym, true, ℕ}
 use Rattle.cond.specs.Pick.{oneIf, pick}
 use Rattle.cond.proofs.Tests.{both}
-use Rattle.spelling.specs.Bytes.{letters}
 use Rattle.record.specs.Record.{inRange, isGood, isYes, zoneAgrees}
 use Rattle.record.specs.declared.Record.{Record}
 use Rattle.forms.specs.Encode.{encode}
-use Rattle.forms.specs.Fields.Offset.{encodeMinutes, halfHourOf}
+use Rattle.forms.specs.Fields.Offset.{halfHourOf}
 use Rattle.forms.specs.Form.{Form, isExpressible}
-use Rattle.forms.specs.Frame.{frame}
-use Rattle.forms.specs.Places.{has, hasWords}
-use Rattle.forms.specs.Serial.{capture, computime, erlangen, racal, spa, standard, sysplex}
 use Rattle.forms.specs.WriterNumbers.{hasNoWord}
 
 -- two words serve a yes or no field, three serve two fields that are not both yes
-two : (b : Bool) → ltb (oneIf b) 2 ≡ true
+pub two : (b : Bool) → ltb (oneIf b) 2 ≡ true
 two true = refl
 two false = refl
 
-three : (a b : Bool) → ltb (oneIf a * 2 + oneIf b) 3 ≡ not (a && b)
+pub three : (a b : Bool) → ltb (oneIf a * 2 + oneIf b) 3 ≡ not (a && b)
 three true true = refl
 three true false = refl
 three false true = refl
 three false false = refl
 
 -- two serve a half hour
-half : (m : ℕ) → ltb (halfHourOf (m % 60)) 2 ≡ eqb (m % 30) 0
+pub half : (m : ℕ) → ltb (halfHourOf (m % 60)) 2 ≡ eqb (m % 30) 0
 unfolding halfHourOf
 half m = go (eqb (m % 60) 0) (eqb (m % 60) 30) refl refl
   where
@@ -38,7 +34,7 @@ half m = go (eqb (m % 60) 0) (eqb (m % 60) 30) refl refl
         let z = eqb-false (m % 60) 30 q in
         sym (ne-eqb (m % 30) 0 (λ e. omega arith))
 
-not-not : (b : Bool) → not (not b) ≡ b
+pub not-not : (b : Bool) → not (not b) ≡ b
 not-not true = refl
 not-not false = refl
 
@@ -46,40 +42,6 @@ not-not false = refl
 abbrev pub Worded : ℕ → Form → Type 0
 Worded n d = (r : Record) → isGood r ≡ true → isExpressible (d .layout) (encode r) ≡ not (hasNoWord n r)
 
-zoned : (r : Record) → isGood r ≡ true → not (isYes (r .utc) && isYes (r .summer)) ≡ true
+pub zoned : (r : Record) → isGood r ≡ true → not (isYes (r .utc) && isYes (r .summer)) ≡ true
 unfolding isGood zoneAgrees
 zoned r g = both (inRange r) _ g .1
-
-pub standard-worded : Worded 1 standard
-unfolding isExpressible has hasWords letters
-standard-worded r g = simp (two, three, zoned r g, or-false) (and-true _)
-
-pub capture-worded : Worded 2 capture
-unfolding isExpressible has hasWords letters
-capture-worded r g = refl
-
-pub erlangen-worded : Worded 3 erlangen
-unfolding isExpressible has hasWords letters
-erlangen-worded r g = simp two
-
-pub spa-worded : Worded 4 spa
-unfolding isExpressible has hasWords letters
-spa-worded r g = refl
-
-pub racal-worded : Worded 5 racal
-unfolding isExpressible has hasWords letters
-racal-worded r g = refl
-
-pub sysplex-worded : Worded 6 sysplex
-unfolding isExpressible has hasWords letters
-sysplex-worded r g = simp two
-
-pub computime-worded : Worded 7 computime
-unfolding isExpressible has hasWords letters
-computime-worded r g = refl
-
-pub frame-worded : Worded 8 frame
-unfolding isExpressible has hasWords letters
-frame-worded r g =
-    let whole : Bool = eqb (encodeMinutes (r .offset) % 30) 0 in
-    simp half (and-true whole ∙ sym (not-not whole))

@@ -1,6 +1,7 @@
 -- A writer's number follows its tests in order, and its layout has no word in row 9 alone.
-use Rattle.cond.proofs.Kit.{_≡_, arith, Bool, false, false≢true, leb, not, refl, sym, _∙_, true, ℕ}
+use Rattle.cond.proofs.Kit.{_%_, _∙_, _≡_, and-true, arith, Bool, eqb, false, false≢true, leb, not, or-false, refl, sym, true, ℕ}
 use Rattle.cond.specs.Pick.{pick}
+use Rattle.spelling.specs.Bytes.{letters}
 use Rattle.record.specs.Answers.{writeNumber}
 use Rattle.record.specs.Record.{isGood}
 use Rattle.record.specs.declared.Record.{Record}
@@ -8,16 +9,18 @@ use Rattle.record.specs.declared.answer.Writing.the-variants as writing
 use Rattle.record.specs.declared.refusal.Refusal.the-variants as refusal
 use Rattle.forms.specs.Block.{blockOf, firstEdition}
 use Rattle.forms.specs.Encode.{encode}
+use Rattle.forms.specs.Fields.Offset.{encodeMinutes}
 use Rattle.forms.specs.Form.{Form, carries, isExpressible, writeBy}
 use Rattle.forms.specs.Forms.{FormKind, allForms, block, formKindOf, hasCarriedAs, hasCarriedForm, isKnown, sized, unknown, writeAs, writeForm}
 use Rattle.forms.specs.Frame.{frame}
+use Rattle.forms.specs.Places.{has, hasWords}
 use Rattle.forms.specs.Required.{hasCarried}
 use Rattle.forms.specs.Serial.{capture, computime, erlangen, racal, spa, standard, sysplex}
 use Rattle.forms.specs.WriterNumbers.{Passed, WriterNumbers, hasNoWord, numberAfter, outputSize}
 use Rattle.forms.proofs.Block.{block-answer}
-use Rattle.forms.proofs.ByNumber.{by-number}
+use Rattle.forms.proofs.ByNumber.{_also_, by-number}
 use Rattle.forms.proofs.FirstEdition.{first-sound}
-use Rattle.forms.proofs.Worded.{Worded, capture-worded, computime-worded, erlangen-worded, frame-worded, racal-worded, spa-worded, standard-worded, sysplex-worded}
+use Rattle.forms.proofs.Worded.{Worded, half, not-not, three, two, zoned}
 
 -- the number of each form's answer
 abbrev Numbered : ℕ → FormKind → Type 0
@@ -51,26 +54,14 @@ block-numbered r room k = go (isGood r) refl
     go true e = rw (block-answer firstEdition first-sound r room e) (written-number (leb (blockOf firstEdition r .size) room) (blockOf firstEdition r .size))
 
 form-numbered : (n : ℕ) → Numbered n (formKindOf allForms n)
+unfolding isExpressible has hasWords letters
 form-numbered =
-    by-number Numbered allForms (
-      sized-numbered 1 standard standard-worded,
-      (
-        sized-numbered 2 capture capture-worded,
-        (
-          sized-numbered 3 erlangen erlangen-worded,
-          (
-            sized-numbered 4 spa spa-worded,
-            (
-              sized-numbered 5 racal racal-worded,
-              (
-                sized-numbered 6 sysplex sysplex-worded,
-                (sized-numbered 7 computime computime-worded, (sized-numbered 8 frame frame-worded, (block-numbered, tt))),
-              ),
-            ),
-          ),
-        ),
-      ),
-    )
+    by-number Numbered allForms
+    (sized-numbered 1 standard (λ r g. simp (two, three, zoned r g, or-false) (and-true _)) also sized-numbered 2 capture (λ r g. refl)
+    also sized-numbered 3 erlangen (λ r g. simp two) also sized-numbered 4 spa (λ r g. refl) also sized-numbered 5 racal (λ r g. refl)
+    also sized-numbered 6 sysplex (λ r g. simp two) also sized-numbered 7 computime (λ r g. refl)
+    also sized-numbered 8 frame (λ r g. let whole : Bool = eqb (encodeMinutes (r .offset) % 30) 0 in simp half (and-true whole ∙ sym (not-not whole)))
+    also block-numbered also tt)
     (λ n r room k. absurd (false≢true k))
 
 unknown-one : (l : FormKind) (r : Record) (room : ℕ) → isKnown l ≡ false → writeNumber (writeAs l r room) ≡ 1

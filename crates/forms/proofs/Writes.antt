@@ -18,24 +18,14 @@ module _ (d : Form) (r : Record) (o : List ℕ) where
   unfolding writeBy
   bad-record g = refused refusal.BadRecord (simp g)
 
-  module _ (g : isGood r ≡ true) where
-    pub missing-field : hasCarried (carries d) r ≡ false → Wrote d r (writing.Refused refusal.MissingField) o o
+  module _ (g : isGood r ≡ true) (h : hasCarried (carries d) r ≡ true) (w : isExpressible (d .layout) (encode r) ≡ true) where
+    pub short-buffer : length o < d .size → Wrote d r (writing.Refused refusal.ShortBuffer) o o
     unfolding writeBy
-    missing-field h = refused refusal.MissingField (simp (g, h))
+    short-buffer l = refused refusal.ShortBuffer (simp (g, h, w, lt-leb (d .size) (length o) l))
 
-    module _ (h : hasCarried (carries d) r ≡ true) where
-      pub not-expressible : isExpressible (d .layout) (encode r) ≡ false → Wrote d r (writing.Refused refusal.NotExpressible) o o
-      unfolding writeBy
-      not-expressible w = refused refusal.NotExpressible (simp (g, h, w))
-
-      module _ (w : isExpressible (d .layout) (encode r) ≡ true) where
-        pub short-buffer : length o < d .size → Wrote d r (writing.Refused refusal.ShortBuffer) o o
-        unfolding writeBy
-        short-buffer l = refused refusal.ShortBuffer (simp (g, h, w, lt-leb (d .size) (length o) l))
-
-        pub written-as : (after : List ℕ) → d .size ≤ length o → after ≡ bytesBy d (encode r) ++ drop (d .size) o
-            → Wrote d r (writing.Written (d .size)) o after
-        unfolding writeBy
-        written-as after l e =
-            let a : writeBy d r (length o) ≡ writing.Written (d .size) = simp (g, h, w, le-leb (d .size) (length o) l) in
-            record { answer = sym a; left = e ∙ sym (left-written d r o (d .size) a) }
+    pub written-as : (after : List ℕ) → d .size ≤ length o → after ≡ bytesBy d (encode r) ++ drop (d .size) o
+        → Wrote d r (writing.Written (d .size)) o after
+    unfolding writeBy
+    written-as after l e =
+        let a : writeBy d r (length o) ≡ writing.Written (d .size) = simp (g, h, w, le-leb (d .size) (length o) l) in
+        record { answer = sym a; left = e ∙ sym (left-written d r o (d .size) a) }

@@ -2,16 +2,11 @@
 use Rattle.forms.proofs.Layouts.{piece-length}
 use Rattle.spelling.proofs.Spelling.{sized-is, sized-value}
 use Rattle.spelling.specs.Spelling.{bits, grouped, isSpelled, valueOf}
-use Rattle.cond.proofs.Kit.{[], _&&_, _*_, _+_, _<_, _∙_, _∷_, _≡_, _≤_, ap, arith, Bool, drop, drop-drop, List, ltb, ltb-true, length}
-use Rattle.cond.proofs.Kit.{mul-le-mul-right, refl, suc, suc-add, take, take-nil, take-take, true, zero, zero-add, ℕ}
+use Rattle.cond.proofs.Kit.{[], _&&_, _*_, _+_, _<_, _∙_, _∷_, _≡_, _≤_, ap, arith, Bool, drop, drop-drop, List, ltb, ltb-true, length, mul-le-mul-right, refl, take, take-take, true, ℕ}
 use Rattle.cond.specs.Pick.{pick}
+use Rattle.cond.proofs.Parts.{drop-take}
 use Rattle.cond.proofs.Tests.{both}
 use Rattle.spelling.specs.Bytes.{Group, areGroups, bitsNumber, digit, digitsBelow, gap, groupWidth, groupsNumber, groupsWidth, isGroup, sameBytes, allAre, isBit, groupsLimit}
-
-drop-take : (w n : ℕ) (l : List ℕ) → drop w (take (w + n) l) ≡ take n (drop w l)
-drop-take zero n l = rw zero-add
-drop-take (suc w) n [] = rw (suc-add, take-nil)
-drop-take (suc w) n (x ∷ l) = rw suc-add (drop-take w n l)
 
 -- the first group of a part, and what is behind it
 module _ (s : List ℕ) (k w n : ℕ) where

@@ -1,7 +1,6 @@
 -- The ten rows are the frame's bytes, element by element, and each is stored behind those before it.
 use Rattle.spelling.specs.Stored.{stored}
-use Rattle.cond.proofs.Kit.{[], _%_, _*_, _++_, _+_, _<_, _∙_, _∷_, _≡_, and-true, ap, append-assoc, append-nil, arith, drop, getD, length}
-use Rattle.cond.proofs.Kit.{length-append, List, ltb, ltb-true, refl, sets, suc, suc-add, sym, take, true, zero, ℕ}
+use Rattle.cond.proofs.Kit.{[], _%_, _*_, _++_, _+_, _<_, _∙_, _∷_, _≡_, and-true, ap, append-assoc, append-nil, arith, drop, getD, length, length-append, List, ltb, ltb-true, refl, sets, suc, suc-add, sym, take, true, zero, ℕ}
 use Rattle.spelling.specs.Bytes.{bitsOf, groupsOf, ones}
 use Rattle.spelling.proofs.Stores
 use Rattle.forms.specs.Checksum.{withChecksum}

@@ -18,15 +18,11 @@ mod shape;
 mod store;
 mod validation;
 
-// A wrong length or first byte is refused before anything else is looked at.
 pub fn read(s: &[u8]) -> Reading
     ensures { λ r. ⌜ r ≡ readBy frame (now (s .entry)) ⌝ }
 {
     if s.len() != 100 {
         return Reading::Refused(Refusal::WrongLength);
-    }
-    if s[0] != 2 {
-        return Reading::Refused(Refusal::WrongByte);
     }
     if !shape::has_shape(s) {
         return Reading::Refused(Refusal::WrongByte);

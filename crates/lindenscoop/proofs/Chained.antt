@@ -5,11 +5,10 @@ use Rattle.stream.specs.Machine.{answers}
 use Rattle.stream.proofs.Machine.{same-answers}
 use Rattle.listener.specs.declared.Listener.{Listener}
 use Rattle.listener.specs.Listening.{answerTo, hears, isBad, movedBy, nextBy, nextOf, startedOf}
-use Rattle.listener.proofs.Starts.{start-by}
+use Rattle.listener.proofs.Starts.{pick-has, start-by}
 use Rattle.listener.specs.Ring.{placeOf}
 use Rattle.lindenscoop.specs.Buffers.{held}
 use Rattle.lindenscoop.specs.Chained.{Chained, answerIn, nextIn}
-use Rattle.lindenscoop.proofs.Small.{pick-has}
 use Rattle.lindenscoop.specs.State.{listenerOf, ringSize, stateBytes, stateSize}
 
 module _ (l : Listener) (s : List ℕ) (long : length (l .bytes) ≡ ringSize) where

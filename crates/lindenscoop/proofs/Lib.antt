@@ -1,9 +1,9 @@
 pub mod Room
-pub mod Heads
 pub mod Runs
 pub mod Small
 pub mod Written
 pub mod Chained
+pub mod Heads
 pub mod Used
 pub mod UsedUp
 pub mod Repeated

@@ -1,11 +1,12 @@
 -- A run over bytes, byte by byte.
 use Rattle.cond.proofs.Kit.{_+_, _<_, _∙_, _≡_, _≤_, add-one, ap, arith, drop, drop-cons, drop-of-length-le, false, getD, length, List, suc, sym, true, ℕ}
 use Rattle.stream.specs.Answer.{nothing}
-use Rattle.listener.specs.declared.Heard.{Heard}
+use Rattle.listener.specs.declared.Fed.{Fed}
 use Rattle.listener.specs.declared.Heard.the-variants as heard
 use Rattle.listener.specs.declared.Listener.{Listener}
-use Rattle.listener.specs.Listening.{answerOf, answerTo, nextOf}
-use Rattle.lindenscoop.specs.Run.{RanAs, Run, isAnswer, runOf}
+use Rattle.listener.specs.Listening.{FedBy, answerOf, answerTo, nextOf}
+use Rattle.listener.proofs.Steps.{same-form}
+use Rattle.lindenscoop.specs.Run.{RanAs, Run, ended, isAnswer, joined, runOf}
 
 -- so many bytes more in front
 abbrev pub behind : ℕ → Run → Run
@@ -15,26 +16,32 @@ pub behind-none : (r : Run) → r ≡ behind 0 r
 behind-none r = let e : 0 + r .used ≡ r .used = omega arith in rw e
 
 module _ (l₀ l : Listener) (s : List ℕ) (i : ℕ) (inv : runOf l₀ s ≡ behind i (runOf l (drop i s))) where
-  module _ (h : i < length s) where
+  module _ (h : i < length s) {f : Fed} (fed : FedBy l (getD s i 0) f) where
     abbrev b : ℕ
     b = getD s i 0
 
-    pub goes-on : isAnswer (answerTo l b) ≡ false → runOf l₀ s ≡ behind (i + 1) (runOf (nextOf l b) (drop (i + 1) s))
+    pub goes-on : isAnswer (answerOf (f .heard)) ≡ false
+        → runOf l₀ s ≡ behind (i + 1) (runOf (joined (l .form) (f .next .bytes) (f .next .at) (f .next .kept) (f .next .distance)) (drop (i + 1) s))
     unfolding runOf
     goes-on e =
-        let z : i + suc (runOf (nextOf l b) (drop (suc i) s) .used) ≡ suc i + runOf (nextOf l b) (drop (suc i) s) .used = omega arith in
-        inv ∙ rw (drop-cons s i 0 h, e, add-one, z)
+        let n = runOf (nextOf l b) (drop (suc i) s) .used in
+        let z : i + suc n ≡ suc i + n = omega arith in
+        inv ∙ rw (drop-cons s i 0 h, ap isAnswer (sym (fed .answer)) ∙ e, add-one, z, ← same-form fed, fed .next)
 
-    pub answered : isAnswer (answerTo l b) ≡ true → (x : Heard) → answerOf x ≡ answerTo l b → (next : Listener) → next ≡ nextOf l b
-        → RanAs l₀ s (record { listener = next; used = i + 1; heard = x })
+    pub answered : isAnswer (answerOf (f .heard)) ≡ true → RanAs l₀ s (ended (f .next) (i + 1) (f .heard))
     unfolding runOf
-    answered e x a next n = record { state = n ∙ sym (ap (λ r. r .state) run); used = sym (ap (λ r. r .used) run); answer = a ∙ sym (ap (λ r. r .answer) run) }
+    answered e =
+        record {
+          state = fed .next ∙ sym (ap (λ r. r .state) run);
+          used = sym (ap (λ r. r .used) run);
+          answer = fed .answer ∙ sym (ap (λ r. r .answer) run);
+        }
       where
         run : runOf l₀ s ≡ record { state = nextOf l b; used = i + 1; answer = answerTo l b }
-        run = inv ∙ rw (drop-cons s i 0 h, e)
+        run = inv ∙ rw (drop-cons s i 0 h, ap isAnswer (sym (fed .answer)) ∙ e)
 
-  pub ended : length s ≤ i → i ≤ length s → RanAs l₀ s (record { listener = l; used = i; heard = heard.Nothing })
+  pub all-fed : length s ≤ i → RanAs l₀ s (ended l i heard.Nothing)
   unfolding runOf
-  ended h k =
+  all-fed h =
       let run : runOf l₀ s ≡ record { state = l; used = i + 0; answer = nothing } = inv ∙ rw (drop-of-length-le s h) in
       record { state = sym (ap (λ r. r .state) run); used = omega (arith, ap (λ r. r .used) run); answer = sym (ap (λ r. r .answer) run) }

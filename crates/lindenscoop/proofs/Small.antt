@@ -1,6 +1,5 @@
 -- The numbers of a listener that stands in bytes, and of the one that a byte leaves, fit a byte.
-use Rattle.cond.proofs.Kit.{[], _+_, _-_, _<_, _∷_, _≡_, _≤_, arith, Bool, false, Fits, getD, List, refl, true, w8, ℕ}
-use Rattle.cond.specs.Pick.{pick}
+use Rattle.cond.proofs.Kit.{[], _+_, _<_, _∷_, _≤_, arith, Fits, getD, List, w8, ℕ}
 use Rattle.record.specs.declared.Record.{Record}
 use Rattle.forms.specs.Valid.{lengthOf}
 use Rattle.serial.proofs.Lengths.{length-most, serial-low}
@@ -9,15 +8,10 @@ use Rattle.stream.specs.Distance.{distanceAfter}
 use Rattle.listener.specs.declared.Listener.{Listener}
 use Rattle.listener.specs.Listening.{answerTo, isBad, movedBy, nextBy, nextOf, startedOf}
 use Rattle.listener.specs.Ring.{placeOf, wrapped}
-use Rattle.listener.proofs.Starts.{start-by}
+use Rattle.listener.proofs.Starts.{pick-has, start-by}
 use Rattle.listener.proofs.Rings.{place-small, place-wrapped}
 use Rattle.lindenscoop.specs.Run.{Run, isAnswer, runOf}
 use Rattle.lindenscoop.specs.State.{Storable, listenerOf, ringSize}
-
--- what both cases of a test have
-pub pick-has : {A : Type 0} (P : A → Type 0) (t : Bool) (a b : A) → (t ≡ true → P a) → (t ≡ false → P b) → P (pick t a b)
-pick-has P true a b h l = h refl
-pick-has P false a b h l = l refl
 
 pub of-bytes : (s : List ℕ) → ((i : ℕ) → Fits w8 (getD s i 0)) → Storable (listenerOf s)
 unfolding listenerOf

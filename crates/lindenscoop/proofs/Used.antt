@@ -13,8 +13,8 @@ use Rattle.flat_record.specs.Encode.{headOf, numbersOf, size, tailOf}
 use Rattle.lindenscoop.specs.Listener.{answerNumber, answerNumbers}
 use Rattle.lindenscoop.specs.Repeated.{inNumbers, seenBy, seenOf}
 use Rattle.lindenscoop.specs.Run.{Run, behindOne, isAnswer, runOf}
+use Rattle.listener.proofs.Starts.{pick-has}
 use Rattle.lindenscoop.proofs.Chained.{Long, next-long}
-use Rattle.lindenscoop.proofs.Small.{pick-has}
 
 -- what both cases of a byte have
 module _ (P : Run → Type 0) (l : Listener) (b : ℕ) (s : List ℕ) where

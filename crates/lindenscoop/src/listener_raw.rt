@@ -9,9 +9,12 @@ use crate::buffers::both_fit;
 use crate::buffers::state_fits;
 use crate::run::feed_until;
 use crate::state::listener_of;
+use crate::state::move_on;
+use crate::state::passing_in;
 use crate::state::put_state;
 use listener::Heard;
 use listener::Listener;
+use listener::Passing;
 
 // 0 for nothing, 100 for a record, else the refusal.
 fn heard_number(heard: Heard) -> u32
@@ -60,6 +63,14 @@ pub extern "C" fn lindenscoop_feed_raw(state: &mut [u8], byte: u8, numbers: &mut
 {
     if !both_fit(state, numbers) {
         return TOO_SHORT;
+    }
+    // Most bytes end no string: for them the state is not read and written back as a whole.
+    match passing_in(state, byte) {
+        Passing::Passed(place, at, kept, distance) => {
+            move_on(state, place, at, kept, distance, byte);
+            return 0;
+        }
+        Passing::Other => {}
     }
     let fed = listener_of(state).feed(byte);
     let next = fed.next;

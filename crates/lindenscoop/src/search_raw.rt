@@ -2,6 +2,8 @@
 ghost use Rattle.lindenscoop.specs.Search.{SearchedAs};
 use crate::buffers::TOO_SHORT;
 use crate::buffers::record_fits;
+use record::Record;
+use search::Finding;
 
 // The first valid string at or after the start, its place and its record.
 #[no_mangle]
@@ -18,8 +20,17 @@ pub extern "C" fn lindenscoop_search_raw(
         *place = 0;
         return TOO_SHORT;
     }
-    let finding = search::search(form, bytes, start);
-    *place = finding.place();
-    flat_record::put_record(finding.record(), numbers);
-    finding.number()
+    // One match, so that no part of the answer is copied before it is stored.
+    match search::search(form, bytes, start) {
+        Finding::Found { at, record } => {
+            *place = at;
+            flat_record::put_record(record, numbers);
+            0
+        }
+        Finding::Refused(x) => {
+            *place = 0;
+            flat_record::put_record(Record::empty(), numbers);
+            x.number()
+        }
+    }
 }

@@ -1,10 +1,12 @@
 // A listener in bytes that the caller owns: the ring, then `at`, `kept`, `distance` and `form`, one byte each.
 ghost use mathlib.Core.Path.{_≡_};
-ghost use mathlib.Core.List.{_++_};
+ghost use mathlib.Core.List.{[], _∷_, _++_};
 ghost use Prim.Native.Nat.{_≤_};
 ghost use lib.ListN.{drop, length, take};
-ghost use Rattle.lindenscoop.specs.State.{Storable, listenerOf, ringSize, stateBytes, stateSize};
+ghost use Rattle.spelling.specs.Stored.{stored};
+ghost use Rattle.lindenscoop.specs.State.{Small, Storable, formIn, listenerOf, numbered, passingIn, ringSize, stateBytes, stateSize};
 use listener::Listener;
+use listener::Passing;
 
 // Where each part begins.
 const AT: usize = 66;
@@ -62,18 +64,41 @@ fn ring_in(l: Listener) -> [u8; AT]
     ring
 }
 
+// Stores the numbers behind the ring.
+fn put_numbers(out: &mut [u8], at: usize, kept: usize, distance: usize, form: u32)
+    requires { ⌜ Small at kept distance form ⌝ }
+    ensures { λ _. ⌜ now (out .exit) ≡ numbered at kept distance form (now (out .entry)) ⌝ }
+{
+    spelling::put_byte(out, AT, at as u8);
+    spelling::put_byte(out, KEPT, kept as u8);
+    spelling::put_byte(out, DISTANCE, distance as u8);
+    spelling::put_byte(out, FORM, form as u8);
+}
+
 pub(crate) fn put_state(l: Listener, out: &mut [u8])
     requires { ⌜ (stateSize ≤ length (now out)) × Storable l ⌝ }
     ensures { λ _. ⌜ now (out .exit) ≡ stateBytes l ++ drop stateSize (now (out .entry)) ⌝ }
 {
     let ring = ring_in(l);
-    let at = l.at as u8;
-    let kept = l.kept as u8;
-    let distance = l.distance as u8;
-    let form = l.form as u8;
     spelling::put_bytes(out, 0, &ring);
-    spelling::put_byte(out, AT, at);
-    spelling::put_byte(out, KEPT, kept);
-    spelling::put_byte(out, DISTANCE, distance);
-    spelling::put_byte(out, FORM, form);
+    put_numbers(out, l.at, l.kept, l.distance, l.form);
+}
+
+// What a byte that ends no string leaves of the listener that stands in the bytes.
+pub(crate) fn passing_in(s: &[u8], b: u8) -> Passing
+    requires { ⌜ stateSize ≤ length (now s) ⌝ }
+    ensures { λ r. ⌜ r ≡ passingIn (now (s .entry)) b ⌝ }
+{
+    let shape = serial::shape_of(wide_form(s[FORM]));
+    listener::passing_of(shape, wide(s[AT]), wide(s[KEPT]), wide(s[DISTANCE]), b)
+}
+
+// Stores such a byte and what it leaves where the state stands.
+pub(crate) fn move_on(s: &mut [u8], place: usize, at: usize, kept: usize, distance: usize, b: u8)
+    requires { ⌜ (stateSize ≤ length (now s)) × Small at kept distance (formIn (now s)) ⌝ }
+    ensures { λ _. ⌜ now (s .exit) ≡ numbered at kept distance (formIn (now (s .entry))) (stored (now (s .entry)) place (b ∷ [])) ⌝ }
+{
+    let form = wide_form(s[FORM]);
+    spelling::put_byte(s, place, b);
+    put_numbers(s, at, kept, distance, form);
 }

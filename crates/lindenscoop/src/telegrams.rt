@@ -2,6 +2,7 @@
 ghost use Rattle.lindenscoop.specs.Telegrams.{ReadAs, WrittenAs, WroteNumbers};
 use crate::buffers::TOO_SHORT;
 use crate::buffers::record_fits;
+use record::Record;
 use record::answer::Reading;
 use record::answer::Writing;
 use record::refusal::Refusal;
@@ -31,9 +32,17 @@ pub extern "C" fn lindenscoop_read_raw(form: u32, input: &[u8], numbers: &mut [u
     if !record_fits(numbers) {
         return TOO_SHORT;
     }
-    let reading = codec::read(form, input);
-    flat_record::put_record(reading.record(), numbers);
-    reading.number()
+    // One match, as in search_raw.rt.
+    match codec::read(form, input) {
+        Reading::Read(r) => {
+            flat_record::put_record(r, numbers);
+            0
+        }
+        Reading::Refused(x) => {
+            flat_record::put_record(Record::empty(), numbers);
+            x.number()
+        }
+    }
 }
 
 // The string of the record at the head of the numbers.

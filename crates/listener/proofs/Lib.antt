@@ -1,6 +1,6 @@
 pub mod Rings
-pub mod Steps
 pub mod Windows
 pub mod Starts
+pub mod Steps
 pub mod Demand3
 pub mod Marking

@@ -1,6 +1,5 @@
 -- The marks still to be stored make of the marks as they are what the marks of all bytes make of those at entry.
-use Rattle.cond.proofs.Kit.{[], _+_, _<_, _∙_, _∷_, _≡_, _≤_, add-one, ap, arith, drop, drop-cons, drop-of-length-le, false, getD, le-leb, length, List}
-use Rattle.cond.proofs.Kit.{lt-leb, refl, set, sets, sets-eq, suc, true, ℕ}
+use Rattle.cond.proofs.Kit.{[], _+_, _<_, _∙_, _∷_, _≡_, _≤_, add-one, ap, arith, drop, drop-cons, drop-of-length-le, false, getD, le-leb, length, List, lt-leb, refl, set, sets, sets-eq, suc, true, ℕ}
 use Rattle.record.specs.declared.Record.{Record}
 use Rattle.record.specs.declared.answer.Writing.the-variants as writing
 use Rattle.record.specs.declared.refusal.Refusal.the-variants as refusal
@@ -10,21 +9,23 @@ use Rattle.stream.specs.Answer.{Answer}
 use Rattle.stream.specs.Heard.{heardAll}
 use Rattle.stream.specs.Machine.{answers}
 use Rattle.stream.proofs.Records.{length-heard}
-use Rattle.listener.specs.Listening.{answerTo, hears, nextOf}
-use Rattle.listener.specs.Marks.{Marked, markAnswer, markOf, marksOf}
+use Rattle.listener.specs.Listening.{FedBy, answerOf, hears}
+use Rattle.listener.specs.Marks.{Marked, markAnswer, markOf, marksFrom, marksOf}
+use Rattle.listener.specs.declared.Fed.{Fed}
 use Rattle.listener.specs.declared.Listener.{Listener}
 use Rattle.listener.proofs.Demand3.{hears-all}
+use Rattle.listener.proofs.Steps.{same-form}
 
--- the marks from byte i on, fed to the state l
-abbrev pub rest : Listener → List ℕ → ℕ → List ℕ
-rest l s i = marksOf (answers nextOf answerTo l (drop i s))
-
-pub mark-step : (m : List ℕ) (l : Listener) (s : List ℕ) (i : ℕ) → i < length s
-    → sets m i (rest l s i) ≡ sets (set m i (markOf (answerTo l (getD s i 0)))) (i + 1) (rest (nextOf l (getD s i 0)) s (i + 1))
+-- byte i is answered: its mark is stored, and the marks of the bytes behind it are left
+pub mark-step : (m : List ℕ) (l : Listener) (s : List ℕ) (i : ℕ) → i < length s → {f : Fed} → FedBy l (getD s i 0) f
+    → {k : ℕ} → k ≡ markOf (answerOf (f .heard))
+    → sets m i (marksFrom l (drop i s))
+    ≡ sets (set m i k) (i + 1)
+    (marksFrom (record { bytes = f .next .bytes; at = f .next .at; kept = f .next .kept; distance = f .next .distance; form = l .form }) (drop (i + 1) s))
 unfolding answers marksOf
-mark-step m l s i h = rw (add-one, drop-cons s i 0)
+mark-step m l s i h fed e = rw (add-one, drop-cons s i 0, e, fed .answer, ← same-form fed, fed .next)
 
-pub mark-end : (m : List ℕ) (l : Listener) (s : List ℕ) (i : ℕ) → length s ≤ i → sets m i (rest l s i) ≡ m
+pub mark-end : (m : List ℕ) (l : Listener) (s : List ℕ) (i : ℕ) → length s ≤ i → sets m i (marksFrom l (drop i s)) ≡ m
 unfolding answers marksOf
 mark-end m l s i h = rw (drop-of-length-le s h)
 

@@ -1,7 +1,5 @@
 -- A ring as a list, oldest byte first: a byte stored at the oldest place becomes the newest.
-use Rattle.cond.proofs.Kit.{[], _++_, _+_, _-_, _<_, _∙_, _∷_, _≡_, _≤_, add-one, ap, append-assoc, append-nil, arith, Bool, drop, drop-append-le, drop-drop, drop-of-length-le}
-use Rattle.cond.proofs.Kit.{drop-set-lt, ext-getD, false, getD, getD-append-add, getD-drop, getD-take, le-ltb, length, length-append, length-drop, length-take, List, List·getD-append}
-use Rattle.cond.proofs.Kit.{lt-ltb, ltb, ltb-false, ltb-true, refl, set, set-split, suc, sym, take, take-suc, take-suc-set, true, ℕ}
+use Rattle.cond.proofs.Kit.{[], _++_, _+_, _-_, _<_, _∙_, _∷_, _≡_, _≤_, add-one, ap, append-assoc, append-nil, arith, Bool, drop, drop-append-le, drop-drop, drop-of-length-le, drop-set-lt, ext-getD, false, getD, getD-append-add, getD-drop, getD-take, le-ltb, length, length-append, length-drop, length-take, List, List·getD-append, lt-ltb, ltb, ltb-false, ltb-true, refl, set, set-split, suc, sym, take, take-append-le, take-suc, take-suc-set, true, ℕ}
 use Rattle.cond.specs.Pick.{pick}
 use Rattle.stream.specs.Window.{lastOf}
 use Rattle.serial.specs.Shape.{longest}
@@ -14,7 +12,7 @@ place-small at = go (ltb at longest) refl
     go true e = ltb-true at longest e
     go false e = omega arith
 
-wrapped-small : (k : ℕ) → k < longest + longest → wrapped k < longest
+pub wrapped-small : (k : ℕ) → k < longest + longest → wrapped k < longest
 wrapped-small k h = go (ltb k longest) refl
   where
     go : (t : Bool) → ltb k longest ≡ t → pick t k (k - longest) < longest
@@ -115,3 +113,11 @@ module _ (y : List ℕ) (at : ℕ) (h : at < longest) (size : length y ≡ longe
           ∙ ring-byte y (wrapped (at + (longest - n))) (wrapped-small (at + (longest - n)) low) size i (omega arith)
           ∙ ap (λ (k : ℕ). getD y k 0) (twice i q)
           ∙ sym (rw (ring-length y at h size) (getD-drop (longest - n) (oldestFirst at y) i 0 ∙ ring-byte y at h size (longest - n + i) (omega arith)))
+
+  -- behind one another where they end in front of the ring's end
+  pub last-window : (n : ℕ) → 0 < n → n ≤ longest → wrapped (at + (longest - n)) + n ≤ longest
+      → take n (drop (wrapped (at + (longest - n))) y) ≡ lastOf n (oldestFirst at y)
+  unfolding oldestFirst
+  last-window n l m fits =
+      let room : n ≤ length (drop (wrapped (at + (longest - n))) y) = rw length-drop (omega arith) in
+      sym (take-append-le n _ (take (wrapped (at + (longest - n))) y) room) ∙ last-bytes n l m

@@ -1,25 +1,22 @@
 -- A listener starts fresh for a serial form; for any other the start is refused with 1.
 use Rattle.cond.proofs.Kit.{_≡_, arith, Bool, false, refl, true, ℕ}
 use Rattle.cond.specs.Pick.{pick}
-use Rattle.record.specs.declared.refusal.Refusal.the-variants as refusal
 use Rattle.forms.specs.Forms.{isSerial}
 use Rattle.forms.specs.Valid.{lengthOf}
 use Rattle.listener.specs.Listening.{silent, startNumber, startedOf}
 use Rattle.listener.specs.declared.Listener.{Listener}
 use Rattle.listener.specs.declared.Started.{Started}
-use Rattle.listener.specs.declared.Starting.the-variants as starting
+
+-- what both cases of a test have
+pub pick-has : {A : Type 0} (P : A → Type 0) (t : Bool) (a b : A) → (t ≡ true → P a) → (t ≡ false → P b) → P (pick t a b)
+pick-has P true a b h l = h refl
+pick-has P false a b h l = l refl
 
 module _ (form : ℕ) where
   -- what holds of a listener of no form, and of a fresh one of each serial form, holds of a new one
   pub start-by : (P : Listener → Type 0) → P (silent 0 0) → (isSerial form ≡ true → P (silent form (lengthOf form))) → P (startedOf form .listener)
   unfolding startedOf
-  start-by P none fresh = go (isSerial form) refl
-    where
-      go : (t : Bool) → isSerial form ≡ t
-          → P (pick {A = Started} t (record { listener = silent form (lengthOf form); answer = starting.Fresh })
-          (record { listener = silent 0 0; answer = starting.Refused refusal.UnknownForm }) .listener)
-      go true e = fresh e
-      go false e = none
+  start-by P none fresh = pick-has (λ (x : Started). P (x .listener)) (isSerial form) _ _ fresh (λ e. none)
 
   pub fresh-is : isSerial form ≡ true → startedOf form .listener ≡ silent form (lengthOf form)
   unfolding startedOf

@@ -1,22 +1,30 @@
 -- A state of the ring is a state of the stream: a byte stored in the ring moves it on as the step over the kept bytes does.
-use Rattle.cond.proofs.Kit.{[], _++_, _+_, _-_, _<_, _||_, _∙_, _∷_, _≡_, _≤_, ap, arith, Bool, drop, drop-append-le, drop-drop, eqb, eqb-false, eqb-true, false, getD, getD-at}
-use Rattle.cond.proofs.Kit.{getD-drop, le-leb, le-ltb, leb, length, length-append, length-drop, length-set, List, lt-leb, lt-ltb, ltb, min, none, not, refl, set, sym, true, ℕ}
+use Rattle.cond.proofs.Kit.{[], _++_, _+_, _-_, _<_, _||_, _∙_, _∷_, _≡_, _≤_, ap, arith, Bool, drop, drop-append-le, drop-drop, eq-eqb, eqb, eqb-false, eqb-true, false, false≢true, getD, getD-at, getD-drop, le-leb, le-ltb, leb, leb-true, length, length-append, length-drop, length-set, List, lt-leb, lt-ltb, ltb, ltb-true, min, none, not, refl, set, subst, sym, true, ℕ}
+use Rattle.cond.proofs.Tests.{both}
 use Rattle.cond.specs.Pick.{pick}
 use Rattle.record.specs.declared.answer.Reading.{Reading}
+use Rattle.record.specs.declared.answer.Reading.the-variants as reading
 use Rattle.record.specs.declared.refusal.Refusal.the-variants as refusal
 use Rattle.forms.specs.Forms.{isSerial}
 use Rattle.forms.specs.Valid.{lengthOf, recordIn, validOf}
-use Rattle.serial.proofs.Lengths.{serial-long, some-serial}
+use Rattle.serial.proofs.Lengths.{length-most, serial-long, some-serial}
 use Rattle.stream.specs.Distance.{distanceAfter, stepAnswer, unlessOverlap}
 use Rattle.stream.specs.Listener.{hit, keptAfter}
 use Rattle.stream.specs.Window.{lastOf}
-use Rattle.serial.specs.Shape.{longest}
+use Rattle.serial.specs.Shape.{longest, shapeOf}
+use Rattle.serial.specs.declared.Shape.{Shape}
 use Rattle.listener.specs.Listening.{FedBy, answerBy, answerOf, answerTo, isBad, movedBy, nextBy, nextOf, stateOf}
+use Rattle.listener.specs.Passing.{passes, passingOf}
 use Rattle.listener.specs.Ring.{oldestFirst, placeOf, wrapped}
+use Rattle.listener.specs.declared.Fed.{Fed}
 use Rattle.listener.specs.declared.Heard.{Heard}
 use Rattle.listener.specs.declared.Heard.the-variants as heard
 use Rattle.listener.specs.declared.Listener.{Listener}
-use Rattle.listener.proofs.Rings.{place-small, ring-length, ring-set}
+use Rattle.listener.specs.declared.passing.Passing.{Passing}
+use Rattle.listener.specs.declared.passing.Passing.the-variants as passing
+use Rattle.listener.proofs.Rings.{place-small, ring-length, ring-set, wrapped-small}
+use Rattle.listener.proofs.Starts.{pick-has}
+use Rattle.listener.proofs.Windows.{other-end}
 
 -- what refusal 11 names
 
@@ -135,3 +143,46 @@ module _ (l : Listener) (b n : ℕ) (is : n ≡ lengthOf (l .form)) where
         encode =
             let o : recordIn reading ≡ hit n (validOf (l .form)) (stateOf l .kept) b = er ∙ rw (eu, ey, ep) (hit-ring l b n sized small most (l .form)) in
             ea ∙ ap (unlessOverlap n (l .distance)) o
+
+-- a byte that is not the form's last one moves the ring on, and nothing is handed out
+
+-- the form stays
+pub same-form : {l : Listener} {b : ℕ} {f : Fed} → FedBy l b f
+    → f .next ≡ record { bytes = f .next .bytes; at = f .next .at; kept = f .next .kept; distance = f .next .distance; form = l .form }
+unfolding nextOf nextBy movedBy
+same-form {l} {b} {f} fed =
+    let kept = pick-has (λ (x : Listener). x .form ≡ l .form) (isBad (lengthOf (l .form)) l) _ _ (λ e. refl) (λ e. refl) in
+    ap (λ x. record { bytes = f .next .bytes; at = f .next .at; kept = f .next .kept; distance = f .next .distance; form = x }) (ap Listener.form (fed .next) ∙ kept)
+
+module _ (l : Listener) (b : ℕ) (sized : length (l .bytes) ≡ longest) where
+  abbrev stored : ℕ → ℕ → ℕ → ℕ → Listener
+  stored place at kept distance = record { bytes = set (l .bytes) place b; at = at; kept = kept; distance = distance; form = l .form }
+
+  abbrev left : Listener
+  left =
+      stored (placeOf (l .at)) (wrapped (placeOf (l .at) + 1)) (min (l .kept + 1) (shapeOf (l .form) .length - 1))
+      (min (shapeOf (l .form) .length) (l .distance + 1))
+
+  pub plain : passes (shapeOf (l .form)) (l .kept) (l .distance) b ≡ true → FedBy l b (record { next = left; heard = heard.Nothing })
+  plain h =
+      let (k, t) = both _ _ h in
+      let (d, e) = both _ _ t in
+      let low = place-small (l .at) in
+      let small : l .kept < shapeOf (l .form) .length = ltb-true _ _ k in
+      let most = length-most (l .form) in
+      let up = wrapped-small (placeOf (l .at) + 1) (omega arith) in
+      let long : length (left .bytes) ≡ longest = length-set (l .bytes) _ b ∙ sized in
+      let newest = newest-byte (l .bytes) _ b _ _ low refl long refl in
+      let none-ends = other-end (l .form) (left .bytes) _ _ up long (omega arith) most (eqb (l .kept + 1) _) b newest (λ q. false≢true (ap not (sym (eq-eqb b _ q)) ∙ e)) in
+      moves-on l b _ refl small (leb-true _ _ d) most sized _ _ _ _ _ (reading.Refused refusal.WrongByte) heard.Nothing refl refl refl none-ends refl refl refl
+
+  -- what is known of an answer of `passing_of`
+  abbrev pub Leaves : Passing → Type 0
+  Leaves (passing.Passed place at kept distance) = (place < longest) × FedBy l b (record { next = stored place at kept distance; heard = heard.Nothing })
+  Leaves passing.Other = Unit {0}
+
+  pub passed : {shape : Shape} {r p : Passing} → shape ≡ shapeOf (l .form) → r ≡ passingOf shape (l .at) (l .kept) (l .distance) b → r ≡ p → Leaves p
+  unfolding passingOf
+  passed es er ep =
+      subst Leaves (rw es at (sym er ∙ ep))
+      (pick-has Leaves (passes (shapeOf (l .form)) (l .kept) (l .distance) b) _ _ (λ t. (place-small (l .at), plain t)) (λ t. tt))

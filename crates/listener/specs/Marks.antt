@@ -14,6 +14,9 @@ use Rattle.forms.specs.Forms.{isSerial}
 use Rattle.forms.specs.Valid.{lengthOf, validOf}
 use Rattle.stream.specs.Answer.{Answer, handed, nothing, refused}
 use Rattle.stream.specs.Heard.{heardAll}
+use Rattle.stream.specs.Machine.{answers}
+use Rattle.listener.specs.Listening.{answerTo, nextOf}
+use Rattle.listener.specs.declared.Listener.{Listener}
 
 -- the mark of an answer; a refusal never occurs
 abbrev pub markOf : Answer Record → ℕ
@@ -24,6 +27,10 @@ markOf (refused c) = 2
 unfoldable pub marksOf : List (Answer Record) → List ℕ
 marksOf [] = []
 marksOf (a ∷ list) = markOf a ∷ marksOf list
+
+-- the marks of a listener that is fed a list byte by byte, from the state l on
+abbrev pub marksFrom : Listener → List ℕ → List ℕ
+marksFrom l s = marksOf (answers nextOf answerTo l s)
 
 -- refusal 1, then 10; else a mark for each byte
 unfoldable pub markAnswer : ℕ → ℕ → ℕ → Writing

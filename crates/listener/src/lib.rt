@@ -17,9 +17,12 @@ use serial::LONGEST;
 use serial::Shape;
 
 mod marks;
+mod passing;
 mod ring;
 
 pub use marks::mark;
+pub use passing::Passing;
+pub use passing::passing_of;
 
 // The last bytes fed stand in a ring, the last `kept` of them count, and the next one goes to place `at`.
 pub struct Listener {
@@ -71,6 +74,11 @@ fn newest(form: u32, y: [u8; LONGEST], at: usize, n: usize) -> Reading
     ensures { λ r. ⌜ recordIn r ≡ validOf form (lastOf n (oldestFirst at y)) ⌝ }
 {
     let from = ring::wrap(at + (LONGEST - n));
+    let end = from + n;
+    // Where they stand behind one another they are read there.
+    if end <= LONGEST {
+        return serial::read(form, &y[from..end]);
+    }
     let z = ring::in_order(y, from, n);
     serial::read(form, &z[0..n])
 }
@@ -112,7 +120,6 @@ fn emitted(reading: Reading, distance: usize, n: usize) -> Heard
 }
 
 fn one_more(distance: usize, n: usize) -> usize
-    requires { ⌜ distance ≤ n ⌝ }
     ensures { λ r. ⌜ r ≡ min n (distance + 1) ⌝ }
 {
     if distance < n { distance + 1 } else { n }

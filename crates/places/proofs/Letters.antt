@@ -1,6 +1,5 @@
 -- A place of one byte: the byte, one of a list of letters, and what the letters tell.
-use Rattle.cond.proofs.Kit.{[], _&&_, _<_, _∙_, _∷_, _≡_, _≤_, and-true, ap, arith, Bool, drop, drop-cons, drop-of-length-le, eq-eqb, eqb, eqb-false, eqb-true, false, getD}
-use Rattle.cond.proofs.Kit.{length, List, ne-eqb, not, not-true, refl, suc, sym, take, true, zero, ℕ}
+use Rattle.cond.proofs.Kit.{[], _&&_, _<_, _∙_, _∷_, _≡_, _≤_, and-true, ap, arith, Bool, drop, drop-cons, drop-of-length-le, eq-eqb, eqb, eqb-false, eqb-true, false, getD, length, List, ne-eqb, not, not-true, refl, suc, sym, take, true, zero, ℕ}
 use Rattle.cond.specs.Pick.{pick}
 use Rattle.cond.proofs.Tests.{both}
 use Rattle.spelling.specs.Bytes.{isWord, letters, sameBytes, wordPlace}

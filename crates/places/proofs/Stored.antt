@@ -1,6 +1,5 @@
 -- Storing a layout place by place leaves its bytes, and the bytes before and behind as they were.
-use Rattle.cond.proofs.Kit.{[], _++_, _+_, _∙_, _∷_, _≡_, _≤_, add-zero, ap, append-assoc, arith, drop, drop-append-add, drop-drop, length, length-append}
-use Rattle.cond.proofs.Kit.{length-take-le, List, sets-eq, sym, take, take-append-drop, take-at, true, ℕ}
+use Rattle.cond.proofs.Kit.{[], _++_, _+_, _∙_, _∷_, _≡_, _≤_, add-zero, ap, append-assoc, arith, drop, drop-append-add, drop-drop, length, length-append, length-take-le, List, sets-eq, sym, take, take-append-drop, take-at, true, ℕ}
 use Rattle.cond.proofs.Tests.{both}
 use Rattle.spelling.specs.Stored.{stored}
 use Rattle.spelling.proofs.Stored.{stored-in, stored-length}

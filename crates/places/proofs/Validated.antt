@@ -1,26 +1,31 @@
 -- The last two tests of a reader over any form: on the record alone where the layout tells nothing besides, on the weekday too where
 -- it has a place for it.
-use Rattle.cond.proofs.Kit.{[], _&&_, _+_, _||_, _∙_, _∷_, _≡_, and-true, ap, Bool, eqb, eqb-true, false, false≢true, length, List, not, not-true, refl, sym, true, ℕ}
+use Rattle.cond.proofs.Kit.{[], _&&_, _+_, _||_, _∙_, _∷_, _≡_, and-true, ap, Bool, eqb, eqb-true, false, false≢true, length, List, not, not-false, not-true, refl, sym, true, ℕ}
 use Rattle.cond.specs.Pick.{pick}
 use Rattle.calendar.specs.Calendar.{isDate, weekdayOf}
 use Rattle.record.specs.declared.Date.the-variants as dateIs
 use Rattle.record.specs.declared.Flag.the-variants as flagIs
 use Rattle.record.specs.declared.Record.{Record}
-use Rattle.record.specs.Record.{inRange, isYes, zoneAgrees}
+use Rattle.record.specs.declared.answer.Reading.the-variants as reading
+use Rattle.record.specs.declared.refusal.Refusal.the-variants as refusal
+use Rattle.record.specs.Record.{channelInRange, dateTimeInRange, fractionInRange, inRange, isYes, offsetInRange, positionInRange, restInRange, zoneAgrees}
 use Rattle.forms.specs.Carries.{carriesOf}
 use Rattle.forms.specs.Checksum.{checksumsHold}
 use Rattle.forms.specs.Fields.Date.{decodeDate, fullDate, hasDate, weekdayInRange, weekdayConsistent}
+use Rattle.forms.specs.Fields.Fraction.{noFraction}
+use Rattle.forms.specs.Fields.Offset.{noOffset}
 use Rattle.forms.specs.Fields.Flag.{firstOfTwo, decodeFlag, noFlag, ownLetter, secondOfTwo}
 use Rattle.forms.specs.Fields.Sign.{signConsistent}
 use Rattle.forms.specs.Fields.Time.{leapConsistent, secondsConsistent}
 use Rattle.forms.specs.Form.{Form, carries, validated, numbersInRange, ranges, readBy, signsConsistent, consistent, valuesBy}
 use Rattle.forms.specs.Places.{Layout, has, isOf, shape, values, width}
 use Rattle.forms.specs.Slots.{Slot, Values, day, daySeconds, deletion, leapSecond, minus, month, offsetMinutes, quality, same, south, summer, utc, weekday, west, year, zone}
-use Rattle.forms.specs.Decode.{decode}
+use Rattle.forms.specs.Decode.{decode, decodeChannel, decodeFraction, decodeOffset, decodePosition}
 use Rattle.forms.proofs.Accepted.{read-validated}
 use Rattle.forms.proofs.Slots.{every, every-slot, slots}
 use Rattle.places.specs.Validated.{verdict, verdictOn}
 use Rattle.places.specs.Weekday.{exists, fallsOn}
+use Rattle.places.proofs.Tests.{disagreement, out-of-range, read-as}
 use Rattle.places.proofs.Weekday.{date-exists}
 
 -- a slot without a place tells 0
@@ -125,15 +130,55 @@ module _ (d : Form) (s : List ℕ) where
     unfolding validated ranges consistent verdict carriesOf weekdayConsistent weekdayInRange
     validated-plain w = sym (simp (w, numbers-lean, rest-lean, and-true))
 
--- the answer for a string of the right length, shape and checksum that decodes to r
-module _ (d : Form) (s : List ℕ) (l : length s ≡ d .size) (h : shape (d .layout) 0 s ≡ true) (q : checksumsHold (d .checksums) s (valuesBy d s) ≡ true) where
-  pub reads-plain : isLean (d .layout) ≡ true → has (d .layout) weekday ≡ false → (r : Record) → r ≡ decoded d s
-      → verdict (inRange r) true r ≡ readBy d s
-  reads-plain t w r e =
-      ap (λ (x : Record). verdict (inRange x) true x) e ∙ validated-plain d s t w ∙ sym (read-validated d s l h q)
+-- the ranges of what a form carries: with date and time those of the rest, which is absent but for what the form carries
 
-  pub reads-on : isLean (d .layout) ≡ true → has (d .layout) weekday ≡ true → has (d .layout) month ≡ true → (r : Record) (n : ℕ) → r ≡ decoded d s
-      → n ≡ valuesBy d s weekday → verdictOn r n true true ≡ readBy d s
-  reads-on t w m r n e f =
-      ap (λ (x : Record). verdictOn x n true true) e ∙ ap (λ (x : ℕ). verdictOn (decoded d s) x true true) f ∙ validated-lean d s t w m
-      ∙ sym (read-validated d s l h q)
+pub both-ranged : (r : Record) (a c : Bool) → a ≡ dateTimeInRange r → c ≡ restInRange r → (a && c) ≡ inRange r
+unfolding inRange
+both-ranged r a c f g = rw (f, g)
+
+module _ (d : Form) (s : List ℕ) (r : Record) (e : r ≡ decoded d s) where
+  module _ (o : carries d .offset ≡ noOffset) (p : carries d .position ≡ false) where
+    pub captured : (x y : Bool) → x ≡ fractionInRange (r .fraction) → y ≡ channelInRange (r .channel) → (x && y) ≡ restInRange r
+    unfolding decodeOffset decodePosition offsetInRange positionInRange
+    captured x y f g = rw (f, g, e) (sym (simp (o, p, and-true)))
+
+    module _ (c : carries d .channel ≡ false) where
+      pub divided : (x : Bool) → x ≡ fractionInRange (r .fraction) → x ≡ restInRange r
+      unfolding decodeChannel channelInRange
+      divided x f = sym (and-true x) ∙ captured x true f (rw e (sym (simp c)))
+
+      pub timed : carries d .fraction ≡ noFraction → (a : Bool) → a ≡ dateTimeInRange r → a ≡ inRange r
+      unfolding decodeFraction fractionInRange
+      timed f a g = sym (and-true a) ∙ both-ranged r a true g (divided true (rw e (sym (simp f))))
+
+  pub located : carries d .fraction ≡ noFraction → carries d .channel ≡ false → (x y : Bool) → x ≡ offsetInRange (r .offset) → y ≡ positionInRange (r .position)
+      → (x && y) ≡ restInRange r
+  unfolding decodeFraction decodeChannel fractionInRange channelInRange
+  located f c x y g h = rw (g, h, e) (sym (simp (f, c)))
+
+-- how a reader ends behind the tests of its bytes, where t tells the ranges and u what is told twice
+pub record Ends (d : Form) (s : List ℕ) (r : Record) (t u : Bool) : Type 0 where
+  pub ranged : not t ≡ true → reading.Refused refusal.OutOfRange ≡ readBy d s
+  pub agreed : not t ≡ false → not u ≡ true → reading.Refused refusal.Disagreement ≡ readBy d s
+  pub told : not t ≡ false → not u ≡ false → reading.Read r ≡ readBy d s
+
+-- of a string of the right length, shape, which was tested by b, and checksum that decodes to r
+module _ (d : Form) (s : List ℕ) (l : length s ≡ d .size) (b : Bool) (h : b ≡ shape (d .layout) 0 s) (n : not b ≡ false) (q : checksumsHold (d .checksums) s (valuesBy d s) ≡ true) where
+  pub ends : (r : Record) (t u : Bool) → verdict t u r ≡ validated (carries d) (valuesBy d s) → Ends d s r t u
+  ends r t u v =
+      let e = v ∙ sym (read-validated d s l (sym h ∙ not-false b n) q) in
+      record {
+        ranged = λ x. out-of-range t u r (not-true t x) ∙ e;
+        agreed = λ x y. disagreement t u r (not-false t x) (not-true u y) ∙ e;
+        told = λ x y. read-as t u r (not-false t x) (not-false u y) ∙ e;
+      }
+
+  -- t tells the record's ranges
+  module _ (r : Record) (e : r ≡ decoded d s) (lean : isLean (d .layout) ≡ true) (t : Bool) (f : t ≡ inRange r) where
+    pub reads-plain : has (d .layout) weekday ≡ false → Ends d s r t true
+    reads-plain w = ends r t true (rw (f, e) (validated-plain d s lean w))
+
+    -- the weekday x is in range where o is true, and the date falls on it where u is
+    pub reads-on : has (d .layout) weekday ≡ true → has (d .layout) month ≡ true → (x : ℕ) → x ≡ valuesBy d s weekday
+        → (o u : Bool) → o ≡ weekdayInRange true x → u ≡ fallsOn (r .date) x → Ends d s r (t && o) u
+    reads-on w m x i o u j k = ends r (t && o) u (rw (k, j, f, e, i) (simp and-true at (validated-lean d s lean w m)))

@@ -4,7 +4,7 @@ use Rattle.cond.proofs.Tests.{both}
 use Rattle.record.specs.declared.Date.{Date}
 use Rattle.record.specs.declared.Date.the-variants as dateIs
 use Rattle.record.specs.declared.Record.{Record}
-use Rattle.record.specs.Record.{dateInRange, inRange, timeInRange}
+use Rattle.record.specs.Record.{dateInRange, inRange, dateTimeInRange, restInRange, timeInRange}
 use Rattle.forms.specs.Fields.Date.{DateKind, encodeOrdinal, fullDate, hasDate}
 use Rattle.forms.specs.Form.{Form, carries}
 use Rattle.forms.proofs.Bounds.{good}
@@ -23,8 +23,8 @@ in-range-exists (dateIs.DayOfYear n) h i = absurd (false≢true h)
 pub date-exists : (r : Record) → hasDate fullDate (r .date) ≡ true → inRange r ≡ true → exists (r .date) ≡ true
 unfolding inRange
 date-exists r h i =
-    let a = both (timeInRange (r .hour) (r .minute) (r .second)) _ i in
-    in-range-exists (r .date) h (both (dateInRange (r .date)) _ (a .1) .0)
+    let a = both (dateTimeInRange r) (restInRange r) i in
+    in-range-exists (r .date) h (both (timeInRange (r .hour) (r .minute) (r .second)) (dateInRange (r .date)) (a .0) .1)
 
 module _ (d : Form) (r : Record) (n : ℕ) (s : Storable d r n) where
   pub stored-ordinal : ordinalOf (r .date) ≡ encodeOrdinal (r .date)

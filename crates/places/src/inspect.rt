@@ -63,7 +63,7 @@ pub fn padded_at(s: &[u8], at: usize, w: usize) -> bool
 
 // The number of up to seven digits at a place, 0 where they are not all there, with a bound that holds for any bytes.
 pub fn number_at(s: &[u8], at: usize, w: usize) -> u32
-    ensures { λ r. ⌜ (r ≡ numberAt (now (s .entry)) at w) × (r + 23 ≤ 23 * 10 ^ w) ⌝ }
+    ensures { λ r. ⌜ (r ≡ numberAt (now (s .entry)) at w) × (r + 2 ≤ 2 * 10 ^ w) ⌝ }
 {
     let x = part_of(s, at, w);
     if x.len() != w {
@@ -91,16 +91,19 @@ pub fn hex_number_at(s: &[u8], at: usize, w: usize) -> u32
     spelling::hex_number(x)
 }
 
-// Three numbers of two digits stand at a place, with the separator between them. The place is a u32, so that its sum with a width fits.
-pub fn pairs_at(s: &[u8], at: u32, separator: u8) -> bool
+// Three numbers of two digits stand at a place, with the separator between them. One test of the length serves for all their bytes.
+pub fn pairs_at(s: &[u8], at: usize, separator: u8) -> bool
     ensures { λ r. ⌜ r ≡ pairsAt (now (s .entry)) at separator ⌝ }
 {
-    let k = at as usize;
-    digits_at(s, k, 2)
-        & is_at(s, k + 2, separator)
-        & digits_at(s, k + 3, 2)
-        & is_at(s, k + 5, separator)
-        & digits_at(s, k + 6, 2)
+    let x = part_of(s, at, 8);
+    if x.len() != 8 {
+        return false;
+    }
+    digits_at(x, 0, 2)
+        & is_at(x, 2, separator)
+        & digits_at(x, 3, 2)
+        & is_at(x, 5, separator)
+        & digits_at(x, 6, 2)
 }
 
 // One of the letters stands at a place.

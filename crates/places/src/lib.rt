@@ -2,7 +2,6 @@
 // a layout tells twice, and the tests with which every reader ends and every writer begins.
 mod inspect;
 mod put;
-mod reading;
 mod signs;
 mod weekdays;
 mod writing;
@@ -25,11 +24,10 @@ pub use put::put_flag;
 pub use put::put_pairs;
 pub use put::put_shared;
 pub use put::put_triple;
-pub use reading::validate;
-pub use reading::validate_on;
-pub use reading::validate_with;
 pub use signs::degrees_at;
 pub use signs::minutes_at;
 pub use signs::sign_agrees;
+pub use weekdays::falls_on;
+pub use weekdays::is_weekday;
 pub use weekdays::weekday_of;
 pub use writing::admitted;

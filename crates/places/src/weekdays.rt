@@ -20,14 +20,14 @@ fn weekday_agrees(year: u32, month: u32, day: u32, weekday: u32) -> bool
 }
 
 // 1 Monday to 7 Sunday.
-pub(crate) fn is_weekday(n: u32) -> bool
+pub fn is_weekday(n: u32) -> bool
     ensures { λ r. ⌜ r ≡ weekdayInRange true n ⌝ }
 {
     (1 <= n) & (n <= 7)
 }
 
 // The full date exists and falls on this weekday.
-pub(crate) fn falls_on(date: Date, weekday: u32) -> bool
+pub fn falls_on(date: Date, weekday: u32) -> bool
     ensures { λ r. ⌜ r ≡ fallsOn date weekday ⌝ }
 {
     weekday_agrees(

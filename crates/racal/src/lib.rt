@@ -42,20 +42,20 @@ fn decode(s: &[u8]) -> Record
     }
 }
 
-// A wrong length or first byte is refused before anything else is looked at.
 pub fn read(s: &[u8]) -> Reading
     ensures { λ r. ⌜ r ≡ readBy racal (now (s .entry)) ⌝ }
 {
     if s.len() != 16 {
         return Reading::Refused(Refusal::WrongLength);
     }
-    if s[0] != b'X' {
-        return Reading::Refused(Refusal::WrongByte);
-    }
     if !has_shape(s) {
         return Reading::Refused(Refusal::WrongByte);
     }
-    places::validate(decode(s))
+    let r = decode(s);
+    if !r.date_time_in_range() {
+        return Reading::Refused(Refusal::OutOfRange);
+    }
+    Reading::Read(r)
 }
 
 fn has_carried(r: Record) -> bool

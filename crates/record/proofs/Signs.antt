@@ -1,6 +1,5 @@
 -- Laws of a sign and a magnitude, and of a number of 32 bits.
-use Rattle.cond.proofs.Kit.{_&&_, _∙_, _≡_, _≤_, ap, Bool, eqb, false, false≢true, le-leb, le-refl, le-suc, leb·suc-zero, ltZ, mag, natAbs, negsuc, negℤ}
-use Rattle.cond.proofs.Kit.{nonNeg, not, ofZ, pos, refl, SFits, suc, sym, T, toZ, toZ-ofZ, true, w32, zero, zero-le, ℕ, ℤ}
+use Rattle.cond.proofs.Kit.{_&&_, _∙_, _≡_, _≤_, ap, Bool, eqb, false, false≢true, le-leb, le-refl, le-suc, leb·suc-zero, ltZ, mag, natAbs, negsuc, negℤ, nonNeg, not, ofZ, pos, refl, SFits, suc, sym, T, toZ, toZ-ofZ, true, w32, zero, zero-le, ℕ, ℤ}
 use Rattle.record.specs.Sign.{isNegative, signed, signedNumber}
 
 -- a number is its sign and its magnitude

@@ -49,10 +49,17 @@ unfoldable pub positionInRange : Position → Bool
 positionInRange positionIs.Absent = true
 positionInRange (positionIs.Degrees lat lon alt) = leb (natAbs lat) 900000 && (leb (natAbs lon) 1800000 && leb alt 9999)
 
--- every value of the record is in its range, and the day exists in its month
+-- the time and the date are in range, and the day exists in its month
+abbrev pub dateTimeInRange : Record → Bool
+dateTimeInRange r = timeInRange (r .hour) (r .minute) (r .second) && dateInRange (r .date)
+
+-- so are the other numbers
+abbrev pub restInRange : Record → Bool
+restInRange r = fractionInRange (r .fraction) && (channelInRange (r .channel) && (offsetInRange (r .offset) && positionInRange (r .position)))
+
+-- every value of the record is in its range
 unfoldable pub inRange : Record → Bool
-inRange r =
-    timeInRange (r .hour) (r .minute) (r .second) && (dateInRange (r .date) && (fractionInRange (r .fraction) && (channelInRange (r .channel) && (offsetInRange (r .offset) && positionInRange (r .position)))))
+inRange r = dateTimeInRange r && restInRange r
 
 -- the field is there and yes
 abbrev pub isYes : Flag → Bool

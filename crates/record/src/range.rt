@@ -1,6 +1,6 @@
 // Which values are in range, and which records are good.
 ghost use mathlib.Core.Path.{_≡_};
-ghost use Rattle.record.specs.Record.{timeInRange, dateInRange, fractionInRange, channelInRange, offsetInRange, positionInRange, inRange, isYes, zoneAgrees, isGood, emptyRecord};
+ghost use Rattle.record.specs.Record.{timeInRange, dateInRange, fractionInRange, channelInRange, offsetInRange, positionInRange, dateTimeInRange, inRange, isYes, zoneAgrees, isGood, emptyRecord};
 use crate::Channel;
 use crate::Date;
 use crate::Flag;
@@ -108,19 +108,25 @@ impl Record {
         }
     }
 
+    // Every form carries these. A reader tests them, and what else its form carries, by functions that are small enough to be inlined.
+    pub fn date_time_in_range(self) -> bool
+        ensures { λ r. ⌜ r ≡ dateTimeInRange self ⌝ }
+    {
+        let date = self.date;
+        time_in_range(self.hour, self.minute, self.second) & date_in_range(date)
+    }
+
     pub fn in_range(self) -> bool
         ensures { λ r. ⌜ r ≡ inRange self ⌝ }
     {
-        let date = self.date;
         let fraction = self.fraction;
         let channel = self.channel;
         let offset = self.offset;
         let position = self.position;
-        time_in_range(self.hour, self.minute, self.second)
-            & (date_in_range(date)
-                & (fraction_in_range(fraction)
-                    & (channel_in_range(channel)
-                        & (offset_in_range(offset) & position_in_range(position)))))
+        self.date_time_in_range()
+            & (fraction_in_range(fraction)
+                & (channel_in_range(channel)
+                    & (offset_in_range(offset) & position_in_range(position))))
     }
 
     // Summer time is no UTC.

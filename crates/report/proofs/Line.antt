@@ -1,6 +1,5 @@
 -- The parts of the last line, stored one behind the other, are the line stored whole.
-use Rattle.cond.proofs.Kit.{[], _++_, _+_, _<_, _∙_, _∷_, _≡_, _≤_, ap, arith, Bool, drop, false, le-leb, leb, length, length-append, List, lt-leb}
-use Rattle.cond.proofs.Kit.{refl, sets-eq, sym, take, take-at, true, ℕ}
+use Rattle.cond.proofs.Kit.{[], _++_, _+_, _<_, _∙_, _∷_, _≡_, _≤_, ap, arith, Bool, drop, false, le-leb, leb, length, length-append, List, lt-leb, refl, sets-eq, sym, take, take-at, true, ℕ}
 use Rattle.cond.specs.Pick.{pick}
 use Rattle.spelling.specs.Bytes.{decimal, digitOf, text}
 use Rattle.spelling.proofs.Base.{spelled-length}

@@ -1,6 +1,6 @@
 -- Bytes moved to the head of a buffer one by one, and the last bytes of its filled part.
-use Rattle.cond.proofs.Kit.{[], _+_, _-_, _<_, _∙_, _≡_, _≤_, add-one, ap, arith, Bool, drop, drop-at, drop-of-length-le, drop-paste, false, getD, getD-drop, leb, leb-false, leb-true}
-use Rattle.cond.proofs.Kit.{length, length-drop, length-take, length-take-le, List, min, paste, paste-suc, refl, set, sym, take, take-add, take-all, true, zero-add, ℕ}
+use Rattle.cond.proofs.Kit.{[], _+_, _-_, _<_, _∙_, _≡_, _≤_, add-one, ap, arith, Bool, drop, drop-of-length-le, drop-paste, false, getD, getD-drop, leb, leb-false, leb-true, length, length-drop, length-take, length-take-le, List, min, paste, paste-suc, refl, set, sym, take, take-all, true, zero-add, ℕ}
+use Rattle.cond.proofs.Parts.{drop-take}
 use Rattle.forms.specs.Valid.{lengthOf}
 use Rattle.stream.specs.Window.{lastOf}
 use Rattle.report.specs.Carry.{Carried, carriedOf}
@@ -39,10 +39,6 @@ take-least m s = go (leb m (length s)) refl
         let l = leb-false m (length s) h in
         take-all (min m (length s)) s (omega arith) ∙ sym (take-all m s (omega arith))
 
--- those behind place d
-drop-take : (d k : ℕ) (s : List ℕ) → d ≤ length s → drop d (take (d + k) s) ≡ take k (drop d s)
-drop-take d k s l = rw take-add (drop-at (take d s) (take k (drop d s)) d (length-take-le d s l))
-
 module _ (form end : ℕ) (b : List ℕ) where
   pub none-carried : lengthOf form ≡ 0 → Carried form end 0 b b
   unfolding carriedOf lastOf
@@ -58,7 +54,7 @@ module _ (form end : ℕ) (b : List ℕ) where
         let size : length (take end b) ≡ filled = length-take end b ∙ sym f in
         let place : filled - (lengthOf form - 1) ≡ filled - k = omega arith in
         let whole : filled - k + k ≡ min end (length b) = omega arith in
-        rw (size, place, ← take-least end b, ← whole) (drop-take (filled - k) k b (omega arith))
+        rw (size, place, ← take-least end b, ← whole) (drop-take (filled - k) k b)
 
     pub carried : (after : List ℕ) → after ≡ paste b 0 (drop (filled - k) b) k → Carried form end k b after
     carried after h =

@@ -1,12 +1,11 @@
 -- The records still to come, stored from a column on, make of the buffer as it is what all records make of the buffer at entry.
-use Rattle.cond.proofs.Kit.{_*_, _++_, _+_, _-_, _/_, _<_, _∙_, _≡_, _≤_, ap, arith, drop, le-leb, length, length-append, length-sets, List, lt-leb, refl}
-use Rattle.cond.proofs.Kit.{sets, sets-eq, sym, take, true, ℕ}
+use Rattle.cond.proofs.Kit.{_*_, _++_, _+_, _-_, _/_, _<_, _∙_, _≡_, _≤_, ap, arith, drop, le-leb, length, length-append, length-sets, List, lt-leb, refl, sets, sets-eq, sym, take, true, ℕ}
 use Rattle.record.specs.declared.Record.{Record}
 use Rattle.record.specs.declared.refusal.Refusal.{Refusal}
 use Rattle.record.specs.declared.refusal.Refusal.the-variants as refusal
 use Rattle.record.specs.Record.{isGood}
 use Rattle.forms.specs.Valid.{lengthOf, validOf}
-use Rattle.spelling.proofs.Stores.{lent, sets-append}
+use Rattle.spelling.proofs.Stores.{sets-append}
 use Rattle.serial.proofs.Lengths.{length-least, not-serial, some-serial}
 use Rattle.serial.proofs.Strings.{valid-good}
 use Rattle.stream.specs.Search.{FirstAt, searchFrom}
@@ -17,7 +16,7 @@ use Rattle.search.specs.declared.Finding.the-variants as finding
 use Rattle.report.specs.Printed.{WroteRecords, paragraph, printed, recordsIn, recordsAnswer}
 use Rattle.report.specs.declared.records.Report.the-variants as records
 use Rattle.report.proofs.Found.{first-at, no-more, one-more}
-use Rattle.report.proofs.Paragraphs.{paragraph-most}
+use Rattle.report.proofs.Paragraphs.{paragraph-most, part-stored}
 
 -- the records from a place on
 abbrev recordsFrom : ℕ → List ℕ → ℕ → List Record
@@ -88,15 +87,15 @@ module _ {form : ℕ} {s before out : List ℕ} {telegrams bytes start : ℕ} (i
       pub ends-inside : (p + n ≤ length s) × (bytes + k ≤ length out)
       ends-inside = (omega (arith, first .inside), omega (arith, fits, paragraph-most r good))
 
-      pub goes-on : (y : List ℕ) → y ≡ paragraph r ++ drop k (take (length out - bytes) (drop bytes out))
-          → (start < p + n) × Progress form s before (take bytes out ++ (y ++ drop (length out - bytes) (drop bytes out))) (telegrams + 1) (bytes + k) (p + n)
+      pub goes-on : (y : List ℕ) → y ≡ paragraph r ++ drop k (take (bytes + 175 - bytes) (drop bytes out))
+          → (start < p + n) × Progress form s before (take bytes out ++ (y ++ drop (bytes + 175 - bytes) (drop bytes out))) (telegrams + 1) (bytes + k) (p + n)
       unfolding printed
       goes-on y h =
           let next = one-more form (i .known) s start a answer p r e in
           let most = paragraph-most r good in
           let least = length-least form (i .known) in
           let rest = recordsFrom form s (p + lengthOf form) in
-          let put = lent out y (paragraph r) bytes k (omega (arith, fits)) long h in
+          let put = part-stored out bytes (bytes + 175 - bytes) (omega (arith, fits)) y (paragraph r) k (omega arith) long h in
           let size = ap (λ (rs : List Record). length (printed rs)) next ∙ length-append (paragraph r) (printed rest) in (
             omega (arith, first .from-start),
             rw (put, is)

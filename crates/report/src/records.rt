@@ -7,7 +7,6 @@ ghost use mathlib.Core.List.{_++_};
 ghost use Rattle.record.specs.Record.{isGood};
 ghost use Rattle.report.specs.Printed.{WroteRecords, paragraph};
 use record::Record;
-use record::answer::Writing;
 use record::refusal::Refusal;
 use search::Finding;
 
@@ -22,17 +21,13 @@ fn put_paragraph(r: Record, out: &mut [u8]) -> usize
     requires { ⌜ (isGood r ≡ true) × (175 ≤ length (now out)) ⌝ }
     ensures { λ k. ⌜ (k ≡ length (paragraph r)) × (now (out .exit) ≡ paragraph r ++ drop k (now (out .entry))) ⌝ }
 {
-    match block::write(r, out) {
-        Writing::Written(n) => {
-            spelling::put_byte(out, n, b'\n');
-            n + 1
-        }
-        Writing::Refused(_) => 0,
-    }
+    let n = block::put(r, out);
+    spelling::put_byte(out, n, b'\n');
+    n + 1
 }
 
 // Every record of the piece. A string has 16 bytes at the least and is told in 175 at the most, so that 11 bytes for each byte of the
-// piece are enough.
+// piece are enough. No more than 175 are lent for a record: with a length that it knows the compiler leaves out every test of room.
 pub fn write_records(form: u32, piece: &[u8], out: &mut [u8]) -> Report
     ensures { λ t. ⌜ WroteRecords form (now (piece .entry)) t (now (out .entry)) (now (out .exit)) ⌝ }
 {
@@ -50,7 +45,8 @@ pub fn write_records(form: u32, piece: &[u8], out: &mut [u8]) -> Report
         let finding = search::search(form, piece, start);
         match finding {
             Finding::Found { at, record } => {
-                bytes += put_paragraph(record, &mut out[bytes..]);
+                let end = bytes + 175;
+                bytes += put_paragraph(record, &mut out[bytes..end]);
                 telegrams += 1;
                 start = at + n;
             }

@@ -19,7 +19,7 @@ pub fn form_of(line: &[u8]) -> u32
     if b'9' < b {
         return 0;
     }
-    let form = (b - b'0') as u32;
+    let form = (b % 16) as u32;
     if serial::length_of(form) == 0 {
         return 0;
     }

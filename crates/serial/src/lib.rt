@@ -46,19 +46,35 @@ pub fn length_of(form: u32) -> usize
     shape_of(form).length
 }
 
+// Each reader's answer is returned from its own arm: where the arms join, the records would be copied field by field.
 pub fn read(form: u32, s: &[u8]) -> Reading
     ensures { λ r. ⌜ r ≡ readAs (formKindOf serialForms form) (now (s .entry)) ⌝ }
 {
     match form {
-        1 => standard::read(s),
-        2 => capture::read(s),
-        3 => erlangen::read(s),
-        4 => spa::read(s),
-        5 => racal::read(s),
-        6 => sysplex::read(s),
-        7 => computime::read(s),
-        _ => Reading::Refused(Refusal::UnknownForm),
+        1 => {
+            return standard::read(s);
+        }
+        2 => {
+            return capture::read(s);
+        }
+        3 => {
+            return erlangen::read(s);
+        }
+        4 => {
+            return spa::read(s);
+        }
+        5 => {
+            return racal::read(s);
+        }
+        6 => {
+            return sysplex::read(s);
+        }
+        7 => {
+            return computime::read(s);
+        }
+        _ => {}
     }
+    Reading::Refused(Refusal::UnknownForm)
 }
 
 pub fn write(form: u32, r: Record, out: &mut [u8]) -> Writing

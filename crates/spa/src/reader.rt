@@ -10,6 +10,7 @@ use record::Date;
 use record::Fraction;
 use record::Record;
 use record::answer::Reading;
+use record::range::fraction_in_range;
 use record::refusal::Refusal;
 
 // `>900WD:yy-mm-dd hh.mm;ss`
@@ -54,15 +55,12 @@ fn decode(s: &[u8]) -> Record
     }
 }
 
-// A wrong length or first byte is refused before anything else is looked at, and the sum is tested before any number is.
+// The sum is tested before any number is.
 pub fn read(s: &[u8]) -> Reading
     ensures { λ r. ⌜ r ≡ readBy spa (now (s .entry)) ⌝ }
 {
     if s.len() != 32 {
         return Reading::Refused(Refusal::WrongLength);
-    }
-    if s[0] != b'>' {
-        return Reading::Refused(Refusal::WrongByte);
     }
     if !has_shape(s) {
         return Reading::Refused(Refusal::WrongByte);
@@ -70,5 +68,10 @@ pub fn read(s: &[u8]) -> Reading
     if !checksum_holds(s) {
         return Reading::Refused(Refusal::WrongChecksum);
     }
-    places::validate(decode(s))
+    let r = decode(s);
+    let fraction = r.fraction;
+    if !(r.date_time_in_range() & fraction_in_range(fraction)) {
+        return Reading::Refused(Refusal::OutOfRange);
+    }
+    Reading::Read(r)
 }

@@ -1,7 +1,5 @@
 -- Digits of a base spell each number below their power of the base, and only once: one law for decimal and hexadecimal.
-use Rattle.cond.proofs.Kit.{[], _%_, _&&_, _*_, _+_, _-_, _/_, _<_, _^_, _∙_, _∷_, _≡_, _≤_, ap, arith, Bool, digits-div, digits-lt, digits-mod, false}
-use Rattle.cond.proofs.Kit.{le-leb, le-ltb, leb, leb-false, leb-true, length, List, lit<, lt-leb, lt-ltb, ltb, ltb-false, ltb-true, mod-eq-of-lt, mod-lt}
-use Rattle.cond.proofs.Kit.{mod-mul, mul-comm, mul-pos, pow-suc, pow-zero, refl, subst, suc, sym, true, zero, ℕ, ⊎-elim}
+use Rattle.cond.proofs.Kit.{[], _%_, _&&_, _*_, _+_, _-_, _/_, _<_, _^_, _∙_, _∷_, _≡_, _≤_, ap, arith, Bool, digits-div, digits-lt, digits-mod, false, le-leb, le-ltb, leb, leb-false, leb-true, length, List, lit<, lt-leb, lt-ltb, ltb, ltb-false, ltb-true, mod-eq-of-lt, mod-lt, mod-mul, mul-comm, mul-pos, pow-suc, pow-zero, refl, subst, suc, sym, true, zero, ℕ, ⊎-elim}
 use Rattle.cond.specs.Pick.{pick}
 use Rattle.cond.proofs.Tests.{both, either}
 use Rattle.spelling.specs.Bytes.{allAre, digitOf, digitValue, hexOf, hexValue, isDigit, isHex, numberIn, spelledIn}
@@ -50,14 +48,14 @@ digit-value d h = go (ltb d 10) refl
 value-digit : (b : ℕ) → isHex b ≡ true → (hexValue b < 16) × (hexOf (hexValue b) ≡ b)
 value-digit b h = go (leb b 57) refl
   where
-    go : (t : Bool) → leb b 57 ≡ t → (pick t (b - 48) (b - 55) < 16) × (hexOf (pick t (b - 48) (b - 55)) ≡ b)
+    go : (t : Bool) → leb b 57 ≡ t → (pick t (b % 16) (b - 55) < 16) × (hexOf (pick t (b % 16) (b - 55)) ≡ b)
     go true e =
         let u = leb-true b 57 e in
         let l : 48 ≤ b =
         ⊎-elim (λ a. leb-true 48 b (both (leb 48 b) (leb b 57) a .0))
         (λ a. omega (arith, leb-true 65 b (both (leb 65 b) (leb b 70) a .0)))
         (either (isDigit b) (leb 65 b && leb b 70) h) in
-        (omega arith, simp (lt-ltb (b - 48) 10 (omega arith)) (omega arith))
+        (omega arith, simp (lt-ltb (b % 16) 10 (omega arith)) (omega arith))
     go false e =
         let u = leb-false b 57 e in
         let l : (65 ≤ b) × (b ≤ 70) =

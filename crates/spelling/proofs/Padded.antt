@@ -1,9 +1,8 @@
 -- Digits with spaces for leading zeros spell each number that the digits do, and only once.
-use Rattle.cond.proofs.Kit.{[], _%_, _&&_, _*_, _+_, _-_, _/_, _<_, _^_, _∙_, _∷_, _≡_, _≤_, ap, arith, Bool, div-eq-of-lt, eqb, eqb-false, eqb-true, false}
-use Rattle.cond.proofs.Kit.{false≢true, le-leb, leb, leb-true, length, List, mod-eq-of-lt, ne-eqb, pow-suc, refl, suc, true, ℕ}
+use Rattle.cond.proofs.Kit.{[], _%_, _&&_, _*_, _+_, _/_, _<_, _^_, _∙_, _∷_, _≡_, _≤_, ap, arith, Bool, div-eq-of-lt, eqb, eqb-false, eqb-true, false, false≢true, le-leb, leb, leb-true, length, List, mod-eq-of-lt, ne-eqb, pow-suc, refl, suc, true, ℕ}
 use Rattle.cond.specs.Pick.{pick}
 use Rattle.cond.proofs.Tests.{both}
-use Rattle.spelling.specs.Bytes.{allAre, areDigits, arePadded, blanked, decimal, digitOf, isDigit, number, numberIn, spelledIn}
+use Rattle.spelling.specs.Bytes.{allAre, areDigits, arePadded, blanked, decimal, digitOf, digitValue, isDigit, number, numberIn, spelledIn}
 use Rattle.spelling.proofs.Base.{decimals, digit-range, spelled-length, spelled-number, number-lt}
 
 pub blanked-length : (bs : List ℕ) → length (blanked bs) ≡ length bs
@@ -24,7 +23,7 @@ number-blanked (b ∷ []) = refl
 number-blanked (b ∷ c ∷ bs) = go (eqb b 48) refl (number-blanked (c ∷ bs))
   where
     go : (t : Bool) → eqb b 48 ≡ t → number (blanked (c ∷ bs)) ≡ number (c ∷ bs)
-        → number (pick t (32 ∷ blanked (c ∷ bs)) (b ∷ c ∷ bs)) ≡ (b - 48) * 10 ^ length (c ∷ bs) + number (c ∷ bs)
+        → number (pick t (32 ∷ blanked (c ∷ bs)) (b ∷ c ∷ bs)) ≡ digitValue b * 10 ^ length (c ∷ bs) + number (c ∷ bs)
     go true e i =
         let z : b ≡ 48 = eqb-true b 48 e in
         ap (λ (n : ℕ). 0 * 10 ^ length (blanked (c ∷ bs)) + n) i ∙ rw z (omega arith)

@@ -1,7 +1,5 @@
 -- One turn of a loop that reads bytes: what is said of the bytes from place i on is said of byte i and of those behind it.
-use Rattle.cond.proofs.Kit.{[], _&&_, _*_, _++_, _+_, _-_, _<_, _^_, _∙_, _∷_, _≡_, _≤_, add-assoc, add-mul, add-one, and-false, ap, arith, Bool, drop}
-use Rattle.cond.proofs.Kit.{drop-cons, drop-of-length-le, eq-eqb, eqb, false, getD, length, length-append, length-drop, List, mul-assoc, mul-le-mul-left}
-use Rattle.cond.proofs.Kit.{mul-le-mul-right, mul-one, ne-eqb, pow-le-pow-right, pow-suc, pow-zero, refl, suc, sym, take, take-all, take-suc, true, ℕ}
+use Rattle.cond.proofs.Kit.{[], _&&_, _*_, _++_, _+_, _<_, _^_, _∙_, _∷_, _≡_, _≤_, add-assoc, add-mul, add-one, and-assoc, and-false, and-true, ap, arith, Bool, drop, drop-cons, drop-of-length-le, eq-eqb, eqb, false, getD, length, length-append, length-drop, List, mul-assoc, mul-le-mul-left, mul-le-mul-right, mul-one, ne-eqb, pow-le-pow-right, pow-suc, pow-zero, refl, suc, sym, take, take-all, take-suc, ℕ}
 use Rattle.cond.specs.Pick.{pick}
 use Rattle.spelling.specs.Bytes.{allAre, areDigits, arePadded, isDigit, isWithin, numberIn, sameBytes}
 
@@ -12,19 +10,15 @@ module _ {A : Type 0} (f : List ℕ → A) (s : List ℕ) (i : ℕ) where
   pub none-left : length s ≤ i → f (drop i s) ≡ f []
   none-left h = ap f (drop-of-length-le s h)
 
--- a test of every byte: the rest decides
-module _ (t : ℕ → Bool) (s : List ℕ) (i : ℕ) (rest : allAre t s ≡ allAre t (drop i s)) where
-  pub all-step : i < length s → t (getD s i 0) ≡ true → allAre t s ≡ allAre t (drop (i + 1) s)
+-- a test of every byte: those passed met it where held is true, and the rest decides besides
+module _ (t : ℕ → Bool) (s : List ℕ) (i : ℕ) (held : Bool) (rest : allAre t s ≡ (held && allAre t (drop i s))) where
+  pub all-step : i < length s → allAre t s ≡ ((held && t (getD s i 0)) && allAre t (drop (i + 1) s))
   unfolding allAre
-  all-step h e = rest ∙ next (allAre t) s i h ∙ simp e
+  all-step h = rest ∙ ap (λ x. held && x) (next (allAre t) s i h) ∙ sym (and-assoc held (t (getD s i 0)) _)
 
-  pub all-fails : i < length s → t (getD s i 0) ≡ false → false ≡ allAre t s
+  pub all-end : length s ≤ i → held ≡ allAre t s
   unfolding allAre
-  all-fails h e = sym (rest ∙ next (allAre t) s i h ∙ simp e)
-
-  pub all-end : length s ≤ i → true ≡ allAre t s
-  unfolding allAre
-  all-end h = sym (rest ∙ none-left (allAre t) s i h)
+  all-end h = sym (rest ∙ ap (λ x. held && x) (none-left (allAre t) s i h) ∙ and-true held)
 
 -- two byte strings compared
 
@@ -35,21 +29,16 @@ lengths-differ [] (y ∷ ys) h = refl
 lengths-differ (x ∷ xs) [] h = refl
 lengths-differ (x ∷ xs) (y ∷ ys) h = simp (lengths-differ xs ys (λ e. h (ap suc e)), and-false)
 
-module _ (s t : List ℕ) (i : ℕ) (rest : sameBytes s t ≡ sameBytes (drop i s) (drop i t)) where
-  module _ (h : i < length s) (l : i < length t) where
-    at-head : sameBytes s t ≡ (eqb (getD s i 0) (getD t i 0) && sameBytes (drop (i + 1) s) (drop (i + 1) t))
-    unfolding sameBytes
-    at-head = rest ∙ next (λ x. sameBytes x (drop i t)) s i h ∙ next (sameBytes (getD s i 0 ∷ drop (i + 1) s)) t i l
-
-    pub same-step : getD s i 0 ≡ getD t i 0 → sameBytes s t ≡ sameBytes (drop (i + 1) s) (drop (i + 1) t)
-    same-step e = at-head ∙ simp (eq-eqb _ _ e)
-
-    pub same-fails : (getD s i 0 ≡ getD t i 0 → ⊥) → false ≡ sameBytes s t
-    same-fails e = sym (at-head ∙ simp (ne-eqb _ _ e))
-
-  pub same-end : length s ≤ i → length t ≤ i → true ≡ sameBytes s t
+module _ (s t : List ℕ) (i : ℕ) (same : Bool) (rest : sameBytes s t ≡ (same && sameBytes (drop i s) (drop i t))) where
+  pub same-step : i < length s → i < length t → sameBytes s t ≡ ((same && eqb (getD s i 0) (getD t i 0)) && sameBytes (drop (i + 1) s) (drop (i + 1) t))
   unfolding sameBytes
-  same-end h l = sym (rest ∙ simp (drop-of-length-le s h, drop-of-length-le t l))
+  same-step h l =
+      rest ∙ ap (λ x. same && x) (next (λ x. sameBytes x (drop i t)) s i h ∙ next (sameBytes (getD s i 0 ∷ drop (i + 1) s)) t i l)
+      ∙ sym (and-assoc same (eqb (getD s i 0) (getD t i 0)) _)
+
+  pub same-end : length s ≤ i → length t ≤ i → same ≡ sameBytes s t
+  unfolding sameBytes
+  same-end h l = sym (rest ∙ simp (drop-of-length-le s h, drop-of-length-le t l, and-true))
 
 -- a number by its last digit
 

@@ -41,13 +41,13 @@ spelledIn base digit (suc w) n = digit (n / base ^ w % base) ∷ spelledIn base 
 abbrev pub isWithin : ℕ → ℕ → ℕ → Bool
 isWithin low high b = leb low b && leb b high
 
--- decimal digits; a space has the value 0
+-- decimal digits; the value of a byte is its low four bits, so that a space has the value 0
 
 abbrev pub isDigit : ℕ → Bool
 isDigit = isWithin 48 57
 
 abbrev pub digitValue : ℕ → ℕ
-digitValue b = b - 48
+digitValue b = b % 16
 
 abbrev pub digitOf : ℕ → ℕ
 digitOf d = d + 48
@@ -70,7 +70,7 @@ abbrev pub isHex : ℕ → Bool
 isHex b = isDigit b || isWithin 65 70 b
 
 abbrev pub hexValue : ℕ → ℕ
-hexValue b = pick (leb b 57) (b - 48) (b - 55)
+hexValue b = pick (leb b 57) (digitValue b) (b - 55)
 
 abbrev pub hexOf : ℕ → ℕ
 hexOf d = pick (ltb d 10) (d + 48) (d + 55)

@@ -6,20 +6,18 @@ ghost use Rattle.spelling.specs.Bytes.{allAre, areDigits, decimal, digit
 ghost use Rattle.spelling.specs.Stored.{stored, upTo};
 use crate::store::has_room;
 
-// Every byte lies between two bytes.
+// Every byte lies between two bytes. A loop without an early end is unrolled where the length is known, and its tests are joined.
 pub fn all_within(s: &[u8], low: u8, high: u8) -> bool
     ensures { λ r. ⌜ r ≡ allAre (isWithin low high) (now (s .entry)) ⌝ }
 {
+    let mut held = true;
     let mut i = 0;
     while i < s.len() {
         let b = s[i];
-        if (low <= b) & (b <= high) {
-            i += 1;
-        } else {
-            return false;
-        }
+        held = held & ((low <= b) & (b <= high));
+        i += 1;
     }
-    true
+    held
 }
 
 pub fn is_digit(b: u8) -> bool
@@ -35,16 +33,16 @@ pub fn are_digits(s: &[u8]) -> bool
     all_within(s, 48, 57)
 }
 
-// A byte below the digits, as a space, has the value 0. No byte has a value above 207.
+// The low four bits: a digit's value, and 0 for a space.
 pub fn digit_value(b: u8) -> u32
-    ensures { λ r. ⌜ (r ≡ digitValue b) × (r ≤ 207) ⌝ }
+    ensures { λ r. ⌜ (r ≡ digitValue b) × (r ≤ 15) ⌝ }
 {
-    if b < 48 { 0 } else { (b - 48) as u32 }
+    (b % 16) as u32
 }
 
 // The number that up to seven bytes spell, 0 for more, with a bound that holds for any bytes.
 pub fn number(s: &[u8]) -> u32
-    ensures { λ r. ⌜ (r ≡ upTo 7 (now (s .entry)) (number (now (s .entry)))) × (r + 23 ≤ 23 * 10 ^ length (now (s .entry))) ⌝ }
+    ensures { λ r. ⌜ (r ≡ upTo 7 (now (s .entry)) (number (now (s .entry)))) × (r + 2 ≤ 2 * 10 ^ length (now (s .entry))) ⌝ }
 {
     if 7 < s.len() {
         return 0;

@@ -1,18 +1,15 @@
 -- Refusal 13 never occurs: the distance counts the bytes since the last record, and a valid string ends n or more bytes behind it.
-use Rattle.cond.proofs.Kit.{[], _++_, _+_, _-_, _<_, _∙_, _∷_, _≡_, _≤_, ap, arith, Bool, false, le-ltb, length, length-append, List, ltb, ltb-false}
-use Rattle.cond.proofs.Kit.{ltb-true, min, none, Option, refl, some, suc, sym, true, zero, ℕ}
+use Rattle.cond.proofs.Kit.{[], _++_, _+_, _-_, _<_, _∙_, _∷_, _≡_, _≤_, ap, arith, Bool, false, le-ltb, length, length-append, List, ltb, ltb-false, ltb-true, min, none, Option, refl, some, suc, sym, true, zero, ℕ}
 use Rattle.stream.specs.Answer.{Answer, handed, handedOut, nothing, refused}
 use Rattle.stream.specs.Distance.{Fits, Since, State, distanceAfter, fresh, stepAnswer, stepNext, unlessOverlap}
 use Rattle.stream.specs.Heard.{heardAll, heardAt}
 use Rattle.stream.specs.Listener.{keptAfter, keptAnswer}
-use Rattle.stream.specs.Listens.{Listens}
 use Rattle.stream.specs.Machine.{answers, stateAfter}
 use Rattle.stream.specs.Strings.{Strings}
 use Rattle.stream.specs.Window.{lastOf}
 use Rattle.stream.proofs.Apart.{ends-apart}
 use Rattle.stream.proofs.Heard.{heard-some, heard-stays}
 use Rattle.stream.proofs.Listener.{hears-all, hit-heard, kept-step}
-use Rattle.stream.proofs.Listens.{listens-by}
 use Rattle.stream.proofs.Machine.{reached, same-answers}
 use Rattle.stream.proofs.Window.{length-last, none-last}
 
@@ -134,7 +131,3 @@ module _ {R : Type 0} (m n : ℕ) (valid : List ℕ → Option R) where
 
         answers-alike : (t : State) (kept : List ℕ) (b : ℕ) → Alike t kept → stepAnswer n valid t b ≡ keptAnswer n valid kept b
         answers-alike t kept b (p, c, e) = answer-is p t b c ∙ ap (λ l. keptAnswer n valid l b) e
-
-    -- demand 3 for the step over the kept bytes and the distance
-    pub step-listens : Listens n valid (answers (stepNext m n valid) (stepAnswer n valid) (fresh n))
-    step-listens = listens-by n valid law (answers (stepNext m n valid) (stepAnswer n valid) (fresh n)) step-hears

@@ -1,6 +1,5 @@
 -- What a byte hands out depends on its window alone: on no byte before it and on none behind it.
-use Rattle.cond.proofs.Kit.{[], _++_, _+_, _-_, _<_, _∙_, _≡_, _≤_, arith, Bool, drop, drop-append-add, drop-append-le, drop-drop, false, le-leb, leb}
-use Rattle.cond.proofs.Kit.{leb-false, leb-true, length, length-drop, List, lt-leb, none, Option, refl, some, sym, take-append-le, true, zero-add, ℕ}
+use Rattle.cond.proofs.Kit.{[], _++_, _+_, _-_, _<_, _∙_, _≡_, _≤_, arith, Bool, drop, drop-append-add, drop-append-le, drop-drop, false, le-leb, leb, leb-false, leb-true, length, length-drop, List, lt-leb, none, Option, refl, some, sym, take-append-le, true, zero-add, ℕ}
 use Rattle.stream.specs.Heard.{heardAt}
 use Rattle.stream.specs.Window.{window}
 

@@ -1,6 +1,5 @@
 -- A listener that keeps the last m bytes hands out at each byte the record of the valid string that ends there.
-use Rattle.cond.proofs.Kit.{[], _++_, _+_, _<_, _∙_, _∷_, _≡_, _≤_, append-snoc, arith, Bool, false, le-leb, leb, leb-false, leb-true, length, length-append}
-use Rattle.cond.proofs.Kit.{List, lt-leb, none, Option, refl, sym, true, ℕ}
+use Rattle.cond.proofs.Kit.{[], _++_, _+_, _<_, _∙_, _∷_, _≡_, _≤_, append-snoc, arith, Bool, false, le-leb, leb, leb-false, leb-true, length, length-append, List, lt-leb, none, Option, refl, sym, true, ℕ}
 use Rattle.cond.specs.Pick.{pick}
 use Rattle.stream.specs.Heard.{heardAll, heardAt, heardFrom}
 use Rattle.stream.specs.Listener.{hit, keptAfter, keptAnswer}

@@ -1,13 +1,10 @@
 -- Demand 3 over a form of n bytes follows from what the form supplies.
-use Rattle.cond.proofs.Kit.{[], _++_, _+_, _<_, _∙_, _≡_, _≤_, ap, arith, drop, length, length-append, length-drop, List, none, Option, some, sym, ℕ}
+use Rattle.cond.proofs.Kit.{_++_, _+_, _<_, _∙_, _≡_, _≤_, ap, arith, drop, length, length-append, length-drop, List, none, Option, some, sym, ℕ}
 use Rattle.stream.specs.Answer.{Answer, answerAt, handedOut, recordsOf, refused}
 use Rattle.stream.specs.Heard.{heardAll, heardAt}
-use Rattle.stream.specs.Listener.{keptAfter, keptAnswer}
 use Rattle.stream.specs.Listens.{Listens}
-use Rattle.stream.specs.Machine.{answers}
 use Rattle.stream.specs.Strings.{Strings}
 use Rattle.stream.proofs.Heard.{heard-short, later, shared}
-use Rattle.stream.proofs.Listener.{hears-all}
 use Rattle.stream.proofs.Records.{heard-all, length-heard}
 use Rattle.stream.proofs.Repeated.{search-from}
 
@@ -46,7 +43,3 @@ module _ {R : Type 0} (n : ℕ) (valid : List ℕ → Option R) (law : Strings n
 
       within : (a piece c : List ℕ) (k : ℕ) → k ≤ length piece → length a + k ≤ length (a ++ (piece ++ c))
       within a piece c k l = simp length-append (omega arith)
-
-  -- the listener over the bytes that it keeps
-  pub listens : (m : ℕ) → n ≤ m + 1 → Listens n valid (answers (keptAfter m) (keptAnswer n valid) [])
-  listens m room = listens-by (answers (keptAfter m) (keptAnswer n valid) []) (hears-all m n valid room)

@@ -41,20 +41,20 @@ fn decode(s: &[u8]) -> Record
     }
 }
 
-// A wrong length or first byte is refused before anything else is looked at.
 pub fn read(s: &[u8]) -> Reading
     ensures { λ r. ⌜ r ≡ readBy sysplex (now (s .entry)) ⌝ }
 {
     if s.len() != 16 {
         return Reading::Refused(Refusal::WrongLength);
     }
-    if s[0] != 1 {
-        return Reading::Refused(Refusal::WrongByte);
-    }
     if !has_shape(s) {
         return Reading::Refused(Refusal::WrongByte);
     }
-    places::validate(decode(s))
+    let r = decode(s);
+    if !r.date_time_in_range() {
+        return Reading::Refused(Refusal::OutOfRange);
+    }
+    Reading::Read(r)
 }
 
 // A full date serves as well as a day of year.

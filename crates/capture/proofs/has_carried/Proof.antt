@@ -10,12 +10,10 @@ use Rattle.places.proofs.Chain.{flat}
 use Rattle.capture.proofs.has_carried.Statement.{statement}
 use Rattle.capture.proofs.has_carried.Tie as tie
 
-returns : tie.Need-returns
+pub has-carried-spec : {M : Type 1} → statement M
 unfolding hasCarried carriesOf has
-returns c =
+has-carried-spec = tie.close (tie.spec (λ c κs. search needs) (λ c κs. search needs) (λ c κs. search needs)
+    (λ c.
     let r = c .before .before .before .args .r in
     simp (c .before .before .has-full-date .ensures, c .before .has-ten-millionths .ensures, c .has-channel .ensures)
-    (flat (hasDate fullDate (r .date)) (hasFraction tenMillionths (r .fraction) ∷ hasChannel true (r .channel) ∷ []))
-
-pub has-carried-spec : {M : Type 1} → statement M
-has-carried-spec = tie.close (tie.spec (λ c κs. search needs) (λ c κs. search needs) (λ c κs. search needs) returns)
+    (flat (hasDate fullDate (r .date)) (hasFraction tenMillionths (r .fraction) ∷ hasChannel true (r .channel) ∷ []))))

@@ -4,19 +4,17 @@ use Rattle.forms.specs.Places.{shape}
 use Rattle.capture.proofs.has_shape.Statement.{statement}
 use Rattle.capture.proofs.has_shape.Tie as tie
 
-returns : tie.Need-returns
+pub has-shape-spec : {M : Type 1} → statement M
 unfolding shape
-returns c =
+has-shape-spec =
+    tie.close
+    (tie.spec
+    (λ c. search needs) (λ c κs. search needs) (λ c κs. search needs) (λ c κs. search needs) (λ c κs. search needs) (λ c κs. search needs)
+    (λ c κs. search needs) (λ c κs. search needs) (λ c κs. search needs) (λ c. search needs) (λ c κs. search needs)
+    (λ c.
     let k = c .before .before .before .before .before in
     simp (and-assoc, and-true)
     (simp (k .before .before .before .before .text-at .ensures, k .before .before .before .digits-at .ensures)
     (simp (k .before .before .is-at .ensures, k .before .pairs-at .ensures, k .is-at2 .ensures)
     (simp (c .before .before .before .before .pairs-at2 .ensures, c .before .before .before .is-at3 .ensures)
-    (simp (c .before .before .digits-at2 .ensures, c .text-at2 .ensures, and-assoc)))))
-
-pub has-shape-spec : {M : Type 1} → statement M
-has-shape-spec =
-    tie.close
-    (tie.spec
-    (λ c. search needs) (λ c κs. search needs) (λ c κs. search needs) (λ c κs. search needs) (λ c κs. search needs) (λ c κs. search needs)
-    (λ c κs. search needs) (λ c κs. search needs) (λ c κs. search needs) (λ c. search needs) (λ c κs. search needs) returns)
+    (simp (c .before .before .digits-at2 .ensures, c .text-at2 .ensures, and-assoc)))))))

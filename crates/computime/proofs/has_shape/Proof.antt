@@ -4,18 +4,16 @@ use Rattle.forms.specs.Places.{shape}
 use Rattle.computime.proofs.has_shape.Statement.{statement}
 use Rattle.computime.proofs.has_shape.Tie as tie
 
-returns : tie.Need-returns
-unfolding shape
-returns c =
-    let k = c .before .before .before .before in
-    simp (and-assoc, and-true)
-    (simp (k .before .before .before .text-at .ensures, k .before .before .pairs-at .ensures, k .before .is-at .ensures)
-    (simp (k .digits-at .ensures, c .before .before .before .is-at2 .ensures, c .before .before .pairs-at2 .ensures)
-    (simp (c .text-at2 .ensures, and-assoc))))
-
 pub has-shape-spec : {M : Type 1} → statement M
+unfolding shape
 has-shape-spec =
     tie.close
     (tie.spec
     (λ c. search needs) (λ c κs. search needs) (λ c κs. search needs) (λ c κs. search needs) (λ c κs. search needs) (λ c κs. search needs)
-    (λ c κs. search needs) (λ c. search needs) (λ c κs. search needs) returns)
+    (λ c κs. search needs) (λ c. search needs) (λ c κs. search needs)
+    (λ c.
+    let k = c .before .before .before .before in
+    simp (and-assoc, and-true)
+    (simp (k .before .before .before .text-at .ensures, k .before .before .pairs-at .ensures, k .before .is-at .ensures)
+    (simp (k .digits-at .ensures, c .before .before .before .is-at2 .ensures, c .before .before .pairs-at2 .ensures)
+    (simp (c .text-at2 .ensures, and-assoc))))))

@@ -9,16 +9,8 @@ use Rattle.places.proofs.Wrote.{alwaysHasWords, alwaysExpressible, refused, lay
 use Rattle.computime.proofs.write.Statement.{statement}
 use Rattle.computime.proofs.write.Tie as tie
 
-returns : tie.Need-returns
-unfolding alwaysExpressible alwaysHasWords has formKindOf stores
-returns c =
-    let k = c .before .before .before .before .before in
-    let a = k .before .before .before .before .before .before .args in
-    wrote computime (a .r) (now (a .out)) true (layout-has-words computimeLayout refl (a .r)) (k .answer .given .0 .0) (cc) (serial-sound 7 computime refl) _
-    (c .before .before .store .ensures)
-
 pub write-spec : {M : Type 1} → statement M
-unfolding alwaysExpressible alwaysHasWords has
+unfolding alwaysExpressible alwaysHasWords has formKindOf stores
 write-spec =
     tie.close
     (tie.spec
@@ -28,7 +20,12 @@ write-spec =
     let a = k .before .before .before .before .args in
     storable computime (a .r) (now (a .out)) true (layout-has-words computimeLayout refl (a .r)) (c .before .before .answer .given .0 .0)
     (simp (k .before .before .is-good .ensures, k .before .has-carried .ensures) at (sym (k .admitted .ensures) ∙ c .before .before .answer .given .1)))
-    (λ c. search needs) (λ c. search needs) returns
+    (λ c. search needs) (λ c. search needs)
+    (λ c.
+    let k = c .before .before .before .before .before in
+    let a = k .before .before .before .before .before .before .args in
+    wrote computime (a .r) (now (a .out)) true (layout-has-words computimeLayout refl (a .r)) (k .answer .given .0 .0) (cc) (serial-sound 7 computime refl) _
+    (c .before .before .store .ensures))
     (λ c.
     let k = c .before .before .before in
     let a = k .before .before .before .before .args in

@@ -6,17 +6,14 @@ use Rattle.forms.specs.Places.{has}
 use Rattle.frame.proofs.has_carried.Statement.{statement}
 use Rattle.frame.proofs.has_carried.Tie as tie
 
-returns : tie.Need-returns
-unfolding hasCarried carriesOf has
-returns c =
-    let k = c .before .before .before in
-    simp and-assoc
-    (simp (k .before .before .has-full-date .ensures, k .before .has-flag .ensures, k .has-flag2 .ensures)
-    (simp (c .before .before .has-offset .ensures, c .before .has-flag3 .ensures, c .has-flag4 .ensures)))
-
 pub has-carried-spec : {M : Type 1} → statement M
+unfolding hasCarried carriesOf has
 has-carried-spec =
     tie.close
     (tie.spec
     (λ c κs. search needs) (λ c κs. search needs) (λ c κs. search needs) (λ c κs. search needs) (λ c κs. search needs) (λ c κs. search needs)
-    returns)
+    (λ c.
+    let k = c .before .before .before in
+    simp and-assoc
+    (simp (k .before .before .has-full-date .ensures, k .before .has-flag .ensures, k .has-flag2 .ensures)
+    (simp (c .before .before .has-offset .ensures, c .before .has-flag3 .ensures, c .has-flag4 .ensures)))))

@@ -5,13 +5,10 @@ use Rattle.heard.specs.Output.{refused}
 use Rattle.heard.proofs.main.Statement.{statement}
 use Rattle.heard.proofs.main.Tie as tie
 
-print-requires : tie.Need-print-requires
-unfolding refusedLine
-print-requires c κs = refused
-
 pub main-spec : {M : Type 1} → statement M
+unfolding refusedLine
 main-spec =
     tie.close
     (tie.spec
     (λ c. search needs) (λ c κs. search needs) (λ c. search needs) (λ c. search needs) (λ c κs. search needs) (λ c κs. search needs)
-    (λ c. search needs) print-requires (λ c. search needs) (λ c κs. search needs) (λ c κs. search needs) (λ c. search needs) (λ c. search needs))
+    (λ c. search needs) (λ c κs. refused) (λ c. search needs) (λ c κs. search needs) (λ c κs. search needs) (λ c. search needs) (λ c. search needs))

@@ -7,9 +7,15 @@ use Rattle.places.proofs.Letters.{flag-letter, letter-of}
 use Rattle.standard.proofs.decode.Statement.{statement}
 use Rattle.standard.proofs.decode.Tie as tie
 
-returns : tie.Need-returns
+pub decode-spec : {M : Type 1} → statement M
 unfolding carriesOf has values decodeDate decodeFraction decodeChannel decodeFlag decodeOffset decodePosition decodeMinutes
-returns c =
+decode-spec =
+    tie.close
+    (tie.spec
+    (λ c κs. search needs) (λ c κs. search needs) (λ c κs. search needs) (λ c κs. search needs) (λ c κs. search needs)
+    (λ c κs. search needs) (λ c κs. search needs) (λ c κs. search needs) (λ c κs. search needs) (λ c κs. search needs)
+    (λ c κs. search needs) (λ c κs. search needs) (λ c κs. search needs)
+    (λ c.
     let s = now (c .before .before .before .before .before .before .before .before .before .before .before .before .before .before .args .s) in
     let l = c .before .before .before .before .before .before .before .before .before .before .before .before .before .before .pre in
     let zones : List ℕ = 32 ∷ 83 ∷ 85 ∷ [] in
@@ -23,12 +29,4 @@ returns c =
     (simp (c .before .before .yes-at3 .ensures, c .before .yes-at4 .ensures, c .empty .ensures, flag-letter s 27 (omega arith) 35 32)
     (simp (flag-letter s 28 (omega arith) 42 32, letter-of s 29 (omega arith) zones 2 refl (omega arith))
     (simp (letter-of s 29 (omega arith) zones 1 refl (omega arith), letter-of s 30 (omega arith) notices 2 refl (omega arith))
-    (simp (letter-of s 30 (omega arith) notices 1 refl (omega arith))))))))))
-
-pub decode-spec : {M : Type 1} → statement M
-decode-spec =
-    tie.close
-    (tie.spec
-    (λ c κs. search needs) (λ c κs. search needs) (λ c κs. search needs) (λ c κs. search needs) (λ c κs. search needs)
-    (λ c κs. search needs) (λ c κs. search needs) (λ c κs. search needs) (λ c κs. search needs) (λ c κs. search needs)
-    (λ c κs. search needs) (λ c κs. search needs) (λ c κs. search needs) returns)
+    (simp (letter-of s 30 (omega arith) notices 1 refl (omega arith))))))))))))

@@ -9,18 +9,16 @@ use Rattle.places.proofs.Chain.{flat}
 use Rattle.standard.proofs.has_carried.Statement.{statement}
 use Rattle.standard.proofs.has_carried.Tie as tie
 
-returns : tie.Need-returns
-unfolding hasCarried carriesOf has
-returns c =
-    let r = c .before .before .before .before .before .before .before .args .r in
-    let k = c .before .before .before in
-    simp (k .before .before .before .has-full-date .ensures, k .before .before .has-flag .ensures, k .before .has-flag2 .ensures)
-    (simp (k .has-flag3 .ensures, c .before .before .has-flag4 .ensures, c .before .has-flag5 .ensures, c .has-flag6 .ensures)
-    (flat (hasDate fullDate (r .date)) (hasFlag true (r .sync) ∷ hasFlag true (r .fix) ∷ hasFlag true (r .utc) ∷ hasFlag true (r .summer) ∷ hasFlag true (r .change) ∷ hasFlag true (r .leap) ∷ [])))
-
 pub has-carried-spec : {M : Type 1} → statement M
+unfolding hasCarried carriesOf has
 has-carried-spec =
     tie.close
     (tie.spec
     (λ c κs. search needs) (λ c κs. search needs) (λ c κs. search needs) (λ c κs. search needs) (λ c κs. search needs)
-    (λ c κs. search needs) (λ c κs. search needs) returns)
+    (λ c κs. search needs) (λ c κs. search needs)
+    (λ c.
+    let r = c .before .before .before .before .before .before .before .args .r in
+    let k = c .before .before .before in
+    simp (k .before .before .before .has-full-date .ensures, k .before .before .has-flag .ensures, k .before .has-flag2 .ensures)
+    (simp (k .has-flag3 .ensures, c .before .before .has-flag4 .ensures, c .before .has-flag5 .ensures, c .has-flag6 .ensures)
+    (flat (hasDate fullDate (r .date)) (hasFlag true (r .sync) ∷ hasFlag true (r .fix) ∷ hasFlag true (r .utc) ∷ hasFlag true (r .summer) ∷ hasFlag true (r .change) ∷ hasFlag true (r .leap) ∷ [])))))

@@ -9,15 +9,8 @@ use Rattle.standard.proofs.Form.{has-words-of}
 use Rattle.standard.proofs.write.Statement.{statement}
 use Rattle.standard.proofs.write.Tie as tie
 
-returns : tie.Need-returns
-unfolding formKindOf stores
-returns c =
-    let k = c .before .before .before .before .before in
-    let a = k .before .before .before .before .before .before .before .args in
-    wrote standard (a .r) (now (a .out)) _ (has-words-of (a .r)) (k .answer .given .0 .0) (cc) (serial-sound 1 standard refl) _
-    (c .before .before .store .ensures)
-
 pub write-spec : {M : Type 1} → statement M
+unfolding formKindOf stores
 write-spec =
     tie.close
     (tie.spec
@@ -25,7 +18,12 @@ write-spec =
     (λ c κs.
     let a = c .before .before .before .before .before .before .before .before .before .args in
     storable standard (a .r) (now (a .out)) _ (has-words-of (a .r)) (c .before .before .answer .given .0 .0) (cc))
-    (λ c. search needs) (λ c. search needs) returns
+    (λ c. search needs) (λ c. search needs)
+    (λ c.
+    let k = c .before .before .before .before .before in
+    let a = k .before .before .before .before .before .before .before .args in
+    wrote standard (a .r) (now (a .out)) _ (has-words-of (a .r)) (k .answer .given .0 .0) (cc) (serial-sound 1 standard refl) _
+    (c .before .before .store .ensures))
     (λ c.
     let a = c .before .before .before .before .before .before .before .before .args in
     refused standard (a .r) (now (a .out)) _ (has-words-of (a .r)) (c .before .answer2 .given .0 .0) (cc)))

@@ -7,17 +7,15 @@ use Rattle.places.proofs.Letters.{flag-letter}
 use Rattle.sysplex.proofs.decode.Statement.{statement}
 use Rattle.sysplex.proofs.decode.Tie as tie
 
-returns : tie.Need-returns
-unfolding carriesOf has values decodeDate decodeFraction decodeChannel decodeFlag decodeOffset decodePosition decodeMinutes
-returns c =
-    let k = c .before .before .before in
-    simp (k .before .before .number-at .ensures .0, k .before .number-at2 .ensures .0, k .number-at3 .ensures .0)
-    (simp (c .before .before .number-at4 .ensures .0, c .before .flag-at .ensures, c .empty .ensures)
-    (simp (flag-letter (now (c .before .before .before .before .before .before .before .args .s)) 13 (omega arith) 63 32)))
-
 pub decode-spec : {M : Type 1} → statement M
+unfolding carriesOf has values decodeDate decodeFraction decodeChannel decodeFlag decodeOffset decodePosition decodeMinutes
 decode-spec =
     tie.close
     (tie.spec
     (λ c κs. search needs) (λ c κs. search needs) (λ c κs. search needs) (λ c κs. search needs) (λ c κs. search needs)
-    (λ c κs. search needs) returns)
+    (λ c κs. search needs)
+    (λ c.
+    let k = c .before .before .before in
+    simp (k .before .before .number-at .ensures .0, k .before .number-at2 .ensures .0, k .number-at3 .ensures .0)
+    (simp (c .before .before .number-at4 .ensures .0, c .before .flag-at .ensures, c .empty .ensures)
+    (simp (flag-letter (now (c .before .before .before .before .before .before .before .args .s)) 13 (omega arith) 63 32)))))

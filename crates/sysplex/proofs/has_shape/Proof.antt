@@ -4,17 +4,15 @@ use Rattle.forms.specs.Places.{shape}
 use Rattle.sysplex.proofs.has_shape.Statement.{statement}
 use Rattle.sysplex.proofs.has_shape.Tie as tie
 
-returns : tie.Need-returns
-unfolding shape
-returns c =
-    let k = c .before .before .before .before in
-    simp (and-assoc, and-true)
-    (simp (k .before .before .before .is-at .ensures, k .before .before .digits-at .ensures, k .before .is-at2 .ensures)
-    (simp (k .pairs-at .ensures, c .before .before .letter-at .ensures, c .text-at .ensures, and-assoc)))
-
 pub has-shape-spec : {M : Type 1} → statement M
+unfolding shape
 has-shape-spec =
     tie.close
     (tie.spec
     (λ c κs. search needs) (λ c κs. search needs) (λ c κs. search needs) (λ c κs. search needs) (λ c. search needs) (λ c κs. search needs)
-    (λ c. search needs) (λ c κs. search needs) returns)
+    (λ c. search needs) (λ c κs. search needs)
+    (λ c.
+    let k = c .before .before .before .before in
+    simp (and-assoc, and-true)
+    (simp (k .before .before .before .is-at .ensures, k .before .before .digits-at .ensures, k .before .is-at2 .ensures)
+    (simp (k .pairs-at .ensures, c .before .before .letter-at .ensures, c .text-at .ensures, and-assoc)))))

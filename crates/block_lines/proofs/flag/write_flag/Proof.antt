@@ -1,6 +1,8 @@
 -- Each case of the field has its own word.
-use Rattle.cond.proofs.Kit.{_∙_, needs, sym}
+use Rattle.cond.proofs.Kit.{_∙_, arith, needs, sym}
 use Rattle.forms.specs.Encode.{encode}
+use Rattle.forms.specs.Places.{layoutWidth}
+use Rattle.block_lines.proofs.Laid.{within}
 use Rattle.block_lines.proofs.flag.write_flag.Statement.{statement}
 use Rattle.block_lines.proofs.flag.write_flag.Tie as tie
 
@@ -10,8 +12,8 @@ write-flag-spec =
     (tie.spec
     (λ c κs. search needs) (λ c. search needs) (λ c. search needs) (λ c κs. search needs) (λ c. search needs) (λ c. search needs)
     (λ c κs. search needs) (λ c. search needs) (λ c. search needs) (λ c κs. search needs) (λ c. search needs)
-    (λ c. simp (sym (c .before .before .before .before .before .before .before .flag-of .ensures) ∙ c .before .before .before .before .before .enum-told .given .1) (c .before .before .put-word .ensures (encode _)))
+    (λ c. simp (sym (c .before .before .before .before .before .before .before .flag-of .ensures) ∙ c .before .before .before .before .before .enum-told .given .1) (within _ _ _ _ _ _ (c .before .before .put-word .ensures (encode _)) (unfold layoutWidth in omega arith)))
     (λ c. search needs)
-    (λ c. simp (sym (c .before .before .before .before .before .before .before .flag-of .ensures) ∙ c .before .before .before .before .before .enum-told2 .given .1) (c .before .before .put-word2 .ensures (encode _)))
+    (λ c. simp (sym (c .before .before .before .before .before .before .before .flag-of .ensures) ∙ c .before .before .before .before .before .enum-told2 .given .1) (within _ _ _ _ _ _ (c .before .before .put-word2 .ensures (encode _)) (unfold layoutWidth in omega arith)))
     (λ c. search needs)
-    (λ c. simp (sym (c .before .before .before .before .before .before .before .flag-of .ensures) ∙ c .before .before .before .before .before .enum-told3 .given .1) (c .before .before .put-word3 .ensures (encode _))))
+    (λ c. simp (sym (c .before .before .before .before .before .before .before .flag-of .ensures) ∙ c .before .before .before .before .before .enum-told3 .given .1) (within _ _ _ _ _ _ (c .before .before .put-word3 .ensures (encode _)) (unfold layoutWidth in omega arith))))

@@ -8,12 +8,10 @@ use Rattle.places.proofs.Signed.{signed-at}
 use Rattle.block_lines.proofs.offset.offset_at.Statement.{statement}
 use Rattle.block_lines.proofs.offset.offset_at.Tie as tie
 
-returns : tie.Need-returns
+pub offset-at-spec : {M : Type 1} → statement M
 unfolding values decodeMinutes decodeOffset
-returns c =
+offset-at-spec = tie.close (tie.spec (λ c. search needs) (λ c κs. search needs) (λ c κs. search needs)
+    (λ c.
     let l = c .before .before .before .before .pre in
     let fits : SFits w32 (c .signed-number .result) = search needs in
-    ap offsetIs.Minutes (toZ-ofZ fits ∙ c .signed-number .ensures ∙ signed-small _ _ (c .before .minutes-at .ensures .1) ∙ signed-at (c .before .before .before .before .args .s .now) 7 (omega arith) 43 45 _ _ (c .before .minutes-at .ensures .0))
-
-pub offset-at-spec : {M : Type 1} → statement M
-offset-at-spec = tie.close (tie.spec (λ c. search needs) (λ c κs. search needs) (λ c κs. search needs) returns)
+    ap offsetIs.Minutes (toZ-ofZ fits ∙ c .signed-number .ensures ∙ signed-small _ _ (c .before .minutes-at .ensures .1) ∙ signed-at (c .before .before .before .before .args .s .now) 7 (omega arith) 43 45 _ _ (c .before .minutes-at .ensures .0))))

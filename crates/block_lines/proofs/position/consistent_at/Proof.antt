@@ -5,9 +5,10 @@ use Rattle.cond.proofs.Kit.{arith, needs}
 use Rattle.block_lines.proofs.position.consistent_at.Statement.{statement}
 use Rattle.block_lines.proofs.position.consistent_at.Tie as tie
 
-returns : tie.Need-returns
+pub consistent-at-spec : {M : Type 1} → statement M
 unfolding values
-returns c =
+consistent-at-spec = tie.close (tie.spec (λ c κs. search needs) (λ c κs. search needs) (λ c κs. search needs) (λ c κs. search needs)
+    (λ c.
     let l = c .before .before .before .before .before .pre in
     simp (
       c .sign-agrees2 .ensures,
@@ -16,7 +17,4 @@ returns c =
       c .before .before .before .degrees-at .ensures .0,
       sign-consistent (c .before .before .before .before .before .args .s .now) 9 (omega arith) 43 45,
       sign-consistent (c .before .before .before .before .before .args .s .now) 19 (omega arith) 43 45,
-    )
-
-pub consistent-at-spec : {M : Type 1} → statement M
-consistent-at-spec = tie.close (tie.spec (λ c κs. search needs) (λ c κs. search needs) (λ c κs. search needs) (λ c κs. search needs) returns)
+    )))

@@ -1,5 +1,5 @@
 -- The stores are those of the layout, place by place.
-use Rattle.cond.proofs.Kit.{needs, refl}
+use Rattle.cond.proofs.Kit.{lit≤, needs, refl}
 use Rattle.places.specs.Stores.{stores}
 use Rattle.forms.specs.Places.{layoutWidth}
 use Rattle.block_lines.proofs.time.write_time.Statement.{statement}
@@ -11,10 +11,13 @@ write-time-spec =
     (tie.spec
     (λ c. search needs) (λ c κs. search needs) (λ c κs. search needs) (λ c κs. search needs) (λ c. search needs)
     (λ c. unfold stores layoutWidth in (
-      refl,
-      rw (
-        c .before .before .put-byte .ensures,
-        c .before .before .before .before .before .before .put-pairs .ensures,
-        c .before .before .before .before .before .before .before .before .before .before .put-bytes .ensures,
+      (
+        refl,
+        rw (
+          c .before .before .put-byte .ensures,
+          c .before .before .before .before .before .before .put-pairs .ensures,
+          c .before .before .before .before .before .before .before .before .before .before .put-bytes .ensures,
+        ),
       ),
+      lit≤ tt,
     )))

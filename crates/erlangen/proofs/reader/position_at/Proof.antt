@@ -7,9 +7,14 @@ use Rattle.forms.specs.Places.{values}
 use Rattle.erlangen.proofs.reader.position_at.Statement.{statement}
 use Rattle.erlangen.proofs.reader.position_at.Tie as tie
 
-returns : tie.Need-returns
+pub position-at-spec : {M : Type 1} → statement M
 unfolding values valueOf decodePosition
-returns c =
+position-at-spec =
+    tie.close
+    (tie.spec
+    (λ c κs. search needs) (λ c κs. search needs) (λ c κs. search needs) (λ c κs. search needs) (λ c κs. search needs) (λ c κs. search needs)
+    (λ c κs. search needs)
+    (λ c.
     let k = c .before .before .before in
     let b = k .before .before in
     let e = b .before .before .before in
@@ -22,11 +27,4 @@ returns c =
     same-position _ _ _ _ _ _
     (toZ-ofZ latitude ∙ k .signed-number .ensures ∙ signed-by s 48 (omega arith) 78 83 _ _ _ (b .before .byte-at .ensures) (m .1) (m .0))
     (toZ-ofZ longitude ∙ c .before .signed-number2 .ensures ∙ signed-by s 58 (omega arith) 69 87 _ _ _ (b .byte-at2 .ensures) (n .1) (n .0))
-    (c .number-at .ensures .0)
-
-pub position-at-spec : {M : Type 1} → statement M
-position-at-spec =
-    tie.close
-    (tie.spec
-    (λ c κs. search needs) (λ c κs. search needs) (λ c κs. search needs) (λ c κs. search needs) (λ c κs. search needs) (λ c κs. search needs)
-    (λ c κs. search needs) returns)
+    (c .number-at .ensures .0)))

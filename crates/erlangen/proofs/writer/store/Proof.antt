@@ -9,12 +9,6 @@ use Rattle.erlangen.proofs.Pieces.{stores-pieces}
 use Rattle.erlangen.proofs.writer.store.Statement.{statement}
 use Rattle.erlangen.proofs.writer.store.Tie as tie
 
-returns : tie.Need-returns
-returns c =
-    let k = c .before .before .before .before .before .before .before .before .before .before .before .before .before .before .before in
-    let a = k .before .before .before .before .before .before .before .before .before .before .before .before .before .before .before .args in
-    cc (stores-pieces (encode (a .r)) (now (a .out)))
-
 pub store-spec : {M : Type 1} → statement M
 unfolding carriesOf has
 store-spec =
@@ -22,4 +16,8 @@ store-spec =
     (tie.spec
     (λ c κs. search needs) (λ c κs. c .before .weekday-of .ensures ∙ stored-weekday erlangen _ _ (c .before .before .before .pre) refl)
     (λ c κs. search needs) (λ c κs. search needs) (λ c κs. search needs) (λ c κs. search needs) (λ c κs. search needs) (λ c κs. search needs)
-    (λ c. search needs) returns)
+    (λ c. search needs)
+    (λ c.
+    let k = c .before .before .before .before .before .before .before .before .before .before .before .before .before .before .before in
+    let a = k .before .before .before .before .before .before .before .before .before .before .before .before .before .before .before .args in
+    cc (stores-pieces (encode (a .r)) (now (a .out)))))

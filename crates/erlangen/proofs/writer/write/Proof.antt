@@ -11,16 +11,8 @@ use Rattle.places.proofs.Wrote.{alwaysHasWords, alwaysExpressible, refused, lay
 use Rattle.erlangen.proofs.writer.write.Statement.{statement}
 use Rattle.erlangen.proofs.writer.write.Tie as tie
 
-returns : tie.Need-returns
-unfolding alwaysExpressible alwaysHasWords has bound letters formKindOf stores
-returns c =
-    let k = c .before .before .before .before .before in
-    let a = k .before .before .before .before .before .before .args in
-    wrote erlangen (a .r) (now (a .out)) true (layout-has-words erlangenLayout refl (a .r)) (k .answer .given .0 .0) (cc) (serial-sound 3 erlangen refl) _
-    (c .before .before .store .ensures)
-
 pub write-spec : {M : Type 1} → statement M
-unfolding alwaysExpressible alwaysHasWords has bound letters
+unfolding alwaysExpressible alwaysHasWords has bound letters formKindOf stores
 write-spec =
     tie.close
     (tie.spec
@@ -28,7 +20,12 @@ write-spec =
     (λ c κs.
     let a = c .before .before .before .before .before .before .before .before .args in
     storable erlangen (a .r) (now (a .out)) true (layout-has-words erlangenLayout refl (a .r)) (c .before .before .answer .given .0 .0) (cc))
-    (λ c. search needs) (λ c. search needs) returns
+    (λ c. search needs) (λ c. search needs)
+    (λ c.
+    let k = c .before .before .before .before .before in
+    let a = k .before .before .before .before .before .before .args in
+    wrote erlangen (a .r) (now (a .out)) true (layout-has-words erlangenLayout refl (a .r)) (k .answer .given .0 .0) (cc) (serial-sound 3 erlangen refl) _
+    (c .before .before .store .ensures))
     (λ c.
     let a = c .before .before .before .before .before .before .before .args in
     refused erlangen (a .r) (now (a .out)) true (layout-has-words erlangenLayout refl (a .r)) (c .before .answer2 .given .0 .0) (cc)))

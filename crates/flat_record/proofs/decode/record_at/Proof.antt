@@ -4,9 +4,17 @@ use borrow.Author.Needs.{needs}
 use Rattle.flat_record.proofs.decode.record_at.Statement.{statement}
 use Rattle.flat_record.proofs.decode.record_at.Tie as tie
 
-returns : tie.Need-returns
+pub record-at-spec : {M : Type 1} → statement M
 unfolding recordAt
-returns c =
+record-at-spec =
+    tie.close
+    (tie.spec
+    (λ c. search needs) (λ c. search needs) (λ c. search needs) (λ c κs. search needs) (λ c. search needs) (λ c. search needs)
+    (λ c κs. search needs) (λ c. search needs) (λ c. search needs) (λ c κs. search needs) (λ c. search needs) (λ c κs. search needs)
+    (λ c. search needs) (λ c κs. search needs) (λ c. search needs) (λ c κs. search needs) (λ c. search needs) (λ c κs. search needs)
+    (λ c. search needs) (λ c κs. search needs) (λ c. search needs) (λ c κs. search needs) (λ c κs. search needs) (λ c κs. search needs)
+    (λ c. search needs) (λ c κs. search needs) (λ c. search needs) (λ c κs. search needs)
+    (λ c.
     let d = c .before .before in
     let p = d .before .before in
     let o = p .before in
@@ -21,14 +29,4 @@ returns c =
     let e = m .before .before .before in
     simp (c .flag-from8 .ensures, d .flag-from7 .ensures, p .position-at .ensures, o .offset-at .ensures, l .flag-from6 .ensures)
     (simp (g .flag-from5 .ensures, s .flag-from4 .ensures, u .flag-from3 .ensures, f .flag-from2 .ensures, y .flag-from .ensures)
-    (simp (h .channel-from .ensures, m .fraction-from .ensures, e .date-at .ensures)))
-
-pub record-at-spec : {M : Type 1} → statement M
-record-at-spec =
-    tie.close
-    (tie.spec
-    (λ c. search needs) (λ c. search needs) (λ c. search needs) (λ c κs. search needs) (λ c. search needs) (λ c. search needs)
-    (λ c κs. search needs) (λ c. search needs) (λ c. search needs) (λ c κs. search needs) (λ c. search needs) (λ c κs. search needs)
-    (λ c. search needs) (λ c κs. search needs) (λ c. search needs) (λ c κs. search needs) (λ c. search needs) (λ c κs. search needs)
-    (λ c. search needs) (λ c κs. search needs) (λ c. search needs) (λ c κs. search needs) (λ c κs. search needs) (λ c κs. search needs)
-    (λ c. search needs) (λ c κs. search needs) (λ c. search needs) (λ c κs. search needs) returns)
+    (simp (h .channel-from .ensures, m .fraction-from .ensures, e .date-at .ensures)))))

@@ -8,9 +8,14 @@ use Rattle.frame.proofs.Form.{flag-bit}
 use Rattle.frame.proofs.decoding.decode.Statement.{statement}
 use Rattle.frame.proofs.decoding.decode.Tie as tie
 
-returns : tie.Need-returns
+pub decode-spec : {M : Type 1} → statement M
 unfolding carriesOf has values groupsLimit groupsWidth decodeDate decodeFraction decodeChannel decodeFlag decodeOffset decodePosition decodeMinutes
-returns c =
+decode-spec =
+    tie.close
+    (tie.spec
+    (λ c κs. search needs) (λ c κs. search needs) (λ c κs. search needs) (λ c κs. search needs) (λ c κs. search needs) (λ c κs. search needs)
+    (λ c κs. search needs) (λ c κs. search needs) (λ c κs. search needs) (λ c κs. search needs)
+    (λ c.
     let k = c .before .before .before .before .before in
     let s = now (k .before .before .before .before .before .before .args .s) in
     let l = k .before .before .before .before .before .before .pre in
@@ -18,11 +23,4 @@ returns c =
     (simp (k .before .before .pair-number3 .ensures .0 0 refl, k .before .date-at .ensures, k .sync-at .ensures)
     (simp (c .before .before .before .before .flag-at .ensures, c .before .before .before .offset-at .ensures)
     (simp (c .before .before .flag-at2 .ensures, c .before .flag-at3 .ensures, c .empty .ensures)
-    (simp (flag-bit s 63 (omega arith), flag-bit s 62 (omega arith), flag-bit s 60 (omega arith))))))
-
-pub decode-spec : {M : Type 1} → statement M
-decode-spec =
-    tie.close
-    (tie.spec
-    (λ c κs. search needs) (λ c κs. search needs) (λ c κs. search needs) (λ c κs. search needs) (λ c κs. search needs) (λ c κs. search needs)
-    (λ c κs. search needs) (λ c κs. search needs) (λ c κs. search needs) (λ c κs. search needs) returns)
+    (simp (flag-bit s 63 (omega arith), flag-bit s 62 (omega arith), flag-bit s 60 (omega arith))))))))

@@ -7,11 +7,9 @@ use Rattle.frame.proofs.Form.{sign-test}
 use Rattle.frame.proofs.decoding.offset_at.Statement.{statement}
 use Rattle.frame.proofs.decoding.offset_at.Tie as tie
 
-returns : tie.Need-returns
-unfolding decodeOffset
-returns c =
-    let fits : SFits w32 (c .signed-number .result) = search needs in
-    ap offsetIs.Minutes (toZ-ofZ fits ∙ c .signed-number .ensures ∙ signed-small _ _ (omega (arith, c .before .offset-minutes .ensures .1)) ∙ simp (sign-test, c .before .offset-minutes .ensures .0))
-
 pub offset-at-spec : {M : Type 1} → statement M
-offset-at-spec = tie.close (tie.spec (λ c κs. search needs) (λ c κs. search needs) returns)
+unfolding decodeOffset
+offset-at-spec = tie.close (tie.spec (λ c κs. search needs) (λ c κs. search needs)
+    (λ c.
+    let fits : SFits w32 (c .signed-number .result) = search needs in
+    ap offsetIs.Minutes (toZ-ofZ fits ∙ c .signed-number .ensures ∙ signed-small _ _ (omega (arith, c .before .offset-minutes .ensures .1)) ∙ simp (sign-test, c .before .offset-minutes .ensures .0))))

@@ -7,9 +7,14 @@ use Rattle.frame.proofs.Digits.{areAt, bits-spelled, groups-spelled}
 use Rattle.frame.proofs.shape.has_date.Statement.{statement}
 use Rattle.frame.proofs.shape.has_date.Tie as tie
 
-returns : tie.Need-returns
+pub has-date-spec : {M : Type 1} → statement M
 unfolding shape groupsWidth areAt
-returns c =
+has-date-spec =
+    tie.close
+    (tie.spec
+    (λ c κs. search needs) (λ c κs. search needs) (λ c κs. search needs) (λ c. search needs) (λ c κs. search needs) (λ c κs. search needs)
+    (λ c κs. search needs) (λ c κs. search needs)
+    (λ c.
     let k = c .before .before .before .before .before in
     let e = k .before .before .before .before in
     let s = now (e .args .s) in
@@ -18,11 +23,4 @@ returns c =
     (simp (k .before .before .pair-at .ensures 10, k .before .is-at .ensures, k .bits-at .ensures, c .before .before .before .text-at .ensures)
     (simp (c .before .before .is-at2 .ensures, c .before .pair-at2 .ensures 10, c .is-at3 .ensures)
     (simp (groups-spelled 30 s 10 (pair 4 0 4) (omega arith), bits-spelled 40 s 2 (omega arith), groups-spelled 30 s 10 days (omega arith))
-    (simp (and-assoc, and-true)))))
-
-pub has-date-spec : {M : Type 1} → statement M
-has-date-spec =
-    tie.close
-    (tie.spec
-    (λ c κs. search needs) (λ c κs. search needs) (λ c κs. search needs) (λ c. search needs) (λ c κs. search needs) (λ c κs. search needs)
-    (λ c κs. search needs) (λ c κs. search needs) returns)
+    (simp (and-assoc, and-true)))))))

@@ -4,16 +4,14 @@ use borrow.Author.Needs.{needs}
 use Rattle.lindenscoop.proofs.state.listener_of.Statement.{statement}
 use Rattle.lindenscoop.proofs.state.listener_of.Tie as tie
 
-returns : tie.Need-returns
-unfolding listenerOf
-returns c =
-    let k = c .before .before .before .before in
-    let r = k .before .before in
-    simp (c .wide-form .ensures, c .before .before .wide3 .ensures, k .wide2 .ensures, r .wide .ensures, r .before .before .ring-of .ensures)
-
 pub listener-of-spec : {M : Type 1} → statement M
+unfolding listenerOf
 listener-of-spec =
     tie.close
     (tie.spec
     (λ c κs. search needs) (λ c. search needs) (λ c κs. search needs) (λ c. search needs) (λ c κs. search needs) (λ c. search needs)
-    (λ c κs. search needs) (λ c. search needs) (λ c κs. search needs) returns)
+    (λ c κs. search needs) (λ c. search needs) (λ c κs. search needs)
+    (λ c.
+    let k = c .before .before .before .before in
+    let r = k .before .before in
+    simp (c .wide-form .ensures, c .before .before .wide3 .ensures, k .wide2 .ensures, r .wide .ensures, r .before .before .ring-of .ensures)))

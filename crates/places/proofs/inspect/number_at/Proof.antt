@@ -10,7 +10,7 @@ returns : tie.Need-returns
 returns c =
     let a = c .before .before .before .args in
     let e = c .before .part-of .ensures in
-    (wrong-width (digits (a .w)) 7 (take (a .w) (drop (a .at) (now (a .s)))) (λ h. c .if1 .taken (ap length e ∙ h)), le-mul-of-pos-right 23 (power-pos 10 (a .w) (lit< tt)))
+    (wrong-width (digits (a .w)) 7 (take (a .w) (drop (a .at) (now (a .s)))) (λ h. c .if1 .taken (ap length e ∙ h)), le-mul-of-pos-right 2 (power-pos 10 (a .w) (lit< tt)))
 
 returns-2 : tie.Need-returns-2
 returns-2 c =

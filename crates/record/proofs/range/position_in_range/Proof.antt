@@ -7,16 +7,13 @@ use Rattle.record.specs.Record.{positionInRange}
 use Rattle.record.proofs.range.position_in_range.Statement.{statement}
 use Rattle.record.proofs.range.position_in_range.Tie as tie
 
-returns-2 : tie.Need-returns-2
-unfolding positionInRange
-returns-2 c =
-    let latitude : SFits w32 (c .before .before .before .position .given .0 .0) = search needs in
-    let longitude : SFits w32 (c .before .before .before .position .given .0 .1 .0) = search needs in
-    simp (c .magnitude2 .ensures, c .before .magnitude .ensures, toZ-ofZ latitude, toZ-ofZ longitude, c .before .before .before .position .given .1)
-
 pub position-in-range-spec : {M : Type 1} → statement M
 unfolding positionInRange
 position-in-range-spec =
     tie.close
     (tie.spec
-    (λ c. search needs) (λ c. search needs) (λ c κs. search needs) (λ c κs. search needs) (λ c. search needs) returns-2)
+    (λ c. search needs) (λ c. search needs) (λ c κs. search needs) (λ c κs. search needs) (λ c. search needs)
+    (λ c.
+    let latitude : SFits w32 (c .before .before .before .position .given .0 .0) = search needs in
+    let longitude : SFits w32 (c .before .before .before .position .given .0 .1 .0) = search needs in
+    simp (c .magnitude2 .ensures, c .before .magnitude .ensures, toZ-ofZ latitude, toZ-ofZ longitude, c .before .before .before .position .given .1)))

@@ -1,7 +1,6 @@
 -- 64 bits hold the opposite of every number of 32 bits. So the difference is the opposite of z, whose magnitude is
 -- that of z.
-use Rattle.cond.proofs.Kit.{+ℤ-idl, _-ℤ_, _∙_, _≡_, ap, arith, Fits, fits-natAbs, natAbs, natAbs-le, needs, negℤ, nonNeg, ofZ, pos, SFits, sfits-widen}
-use Rattle.cond.proofs.Kit.{subst, sym, T, toZ, toZ-ofZ, w32, w64, ℤ}
+use Rattle.cond.proofs.Kit.{+ℤ-idl, _-ℤ_, _∙_, _≡_, ap, arith, Fits, fits-natAbs, natAbs, natAbs-le, needs, negℤ, nonNeg, ofZ, pos, SFits, sfits-widen, subst, sym, T, toZ, toZ-ofZ, w32, w64, ℤ}
 use Rattle.record.proofs.Signs.{test-negative, mag-opposite, natAbs-opposite, negative-opposite, not-negative}
 use Rattle.record.proofs.sign.magnitude.Statement.{statement}
 use Rattle.record.proofs.sign.magnitude.Tie as tie

@@ -15,13 +15,6 @@ module _ (n : ℕ) (h : n ≤ 2147483647) where
   opposite-fits : SFits w32 (negℤ (pos n))
   opposite-fits = omega (arith, mag-opposite (pos n))
 
-returns-2 : tie.Need-returns-2
-returns-2 c =
-    let n = c .before .before .args .n in
-    let h : n ≤ 2147483647 = omega arith in
-    ap (λ x. toZ w32 (ofZ w32 x)) (difference n h) ∙ toZ-ofZ (opposite-fits n h) ∙ opposite-signed n ∙ ap (λ b. signed b n) (sym (c .if2 .taken))
-    ∙ sym (signed-small _ n h)
-
 pub signed-number-spec : {M : Type 1} → statement M
 signed-number-spec =
     tie.close
@@ -30,7 +23,12 @@ signed-number-spec =
     (λ c.
     let h : c .before .before .args .n ≤ 2147483647 = omega arith in
     subst (SFits w32) (sym (difference _ h)) (opposite-fits _ h))
-    (λ c. search needs) returns-2
+    (λ c. search needs)
+    (λ c.
+    let n = c .before .before .args .n in
+    let h : n ≤ 2147483647 = omega arith in
+    ap (λ x. toZ w32 (ofZ w32 x)) (difference n h) ∙ toZ-ofZ (opposite-fits n h) ∙ opposite-signed n ∙ ap (λ b. signed b n) (sym (c .if2 .taken))
+    ∙ sym (signed-small _ n h))
     (λ c.
     let n = c .before .before .args .n in
     let h : n ≤ 2147483647 = omega arith in

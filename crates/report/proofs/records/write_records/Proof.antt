@@ -1,6 +1,6 @@
 -- Each turn writes the first record still to come, and what is written so far is what all records begin with.
-use Rattle.cond.proofs.Kit.{_-_, _∙_, arith, length, needs, now, sym}
-use Rattle.spelling.proofs.Stores.{lent-length}
+use Rattle.cond.proofs.Kit.{_+_, _-_, _∙_, arith, length, needs, now, sym}
+use Rattle.report.proofs.Paragraphs.{part-length}
 use Rattle.report.proofs.Scanned.{Progress, begins, ends-inside, fits, goes-on, good, no-form, no-room, wrote-all}
 use Rattle.report.proofs.records.write_records.Statement.{statement}
 use Rattle.report.proofs.records.write_records.Tie as tie
@@ -18,12 +18,19 @@ write-records-spec =
     let a = c .before .before .before .before .before .args in
     no-room (a .form) (now (a .piece)) (now (a .out)) (λ e. c .before .if1 .left (c .before .before .length-of .ensures ∙ e)) (c .if2 .taken))
     (λ c. begins _ _ _ (λ e. c .before .if1 .left (c .before .before .length-of .ensures ∙ e)) (c .if2 .left)) (λ c κs. search needs)
-    (λ c. search needs) (λ c. omega arith) (λ c. omega arith) (λ c. omega arith)
+    (λ c. search needs)
+    (λ c.
+    let q = c .before .before .before .before .loop in
+    omega (arith, fits (q .inv) (c .before .before .before .search .ensures) (c .before .finding .given .1)))
+    (λ c. omega arith) (λ c. omega arith)
+    (λ c.
+    let q = c .before .before .before .before .loop in
+    omega (arith, fits (q .inv) (c .before .before .before .search .ensures) (c .before .finding .given .1)))
     (λ c κs.
     let q = c .before .before .before .before .before .loop in
     let found = c .before .before .before .before .search .ensures in
     let g = c .before .before .finding .given .1 in
-    (good (q .inv) found g, rw (lent-length (q .out) (q .bytes)) (omega (arith, fits (q .inv) found g))))
+    (good (q .inv) found g, omega (arith, part-length (q .out) (q .bytes) (q .bytes + 175 - q .bytes) (omega (arith, fits (q .inv) found g)))))
     (λ c.
     let q = c .before .before .before .before .before .before .before .before .loop in
     let found = c .before .before .before .before .before .before .before .search .ensures in

@@ -1,5 +1,5 @@
 -- Each test that refuses a line is one of the definition's; a line that passes them all has the digit.
-use Rattle.cond.proofs.Kit.{_-_, _<_, _∙_, _≡_, _≤_, arith, eq-eqb, getD, le-leb, length, List, lt-leb, ne-eqb, needs, now, sym, ℕ}
+use Rattle.cond.proofs.Kit.{_%_, _<_, _∙_, _≡_, _≤_, arith, eq-eqb, getD, le-leb, length, List, lt-leb, ne-eqb, needs, now, sym, ℕ}
 use Rattle.forms.specs.Valid.{lengthOf}
 use Rattle.serial.proofs.Lengths.{not-serial, some-serial}
 use Rattle.report.specs.Request.{formOf}
@@ -15,16 +15,16 @@ module _ (s : List ℕ) (two : length s ≡ 2) (lf : getD s 1 0 ≡ 10) where
   unfolding formOf
   above h = rw (eq-eqb (length s) 2 two, eq-eqb (getD s 1 0) 10 lf, le-leb 48 (getD s 0 0) (omega arith), lt-leb (getD s 0 0) 57 h)
 
-  module _ (h : 48 ≤ getD s 0 0) (l : getD s 0 0 ≤ 57) (n : ℕ) (is : n ≡ lengthOf (getD s 0 0 - 48)) where
+  module _ (h : 48 ≤ getD s 0 0) (l : getD s 0 0 ≤ 57) (n : ℕ) (is : n ≡ lengthOf (getD s 0 0 % 16)) where
     no-form : n ≡ 0 → 0 ≡ formOf s
     unfolding formOf
     no-form e =
-        rw (eq-eqb (length s) 2 two, eq-eqb (getD s 1 0) 10 lf, le-leb 48 (getD s 0 0) h, le-leb (getD s 0 0) 57 l, not-serial (getD s 0 0 - 48) (sym is ∙ e))
+        rw (eq-eqb (length s) 2 two, eq-eqb (getD s 1 0) 10 lf, le-leb 48 (getD s 0 0) h, le-leb (getD s 0 0) 57 l, not-serial (getD s 0 0 % 16) (sym is ∙ e))
 
-    form : (n ≡ 0 → ⊥) → getD s 0 0 - 48 ≡ formOf s
+    form : (n ≡ 0 → ⊥) → getD s 0 0 % 16 ≡ formOf s
     unfolding formOf
     form e =
-        let known = some-serial (getD s 0 0 - 48) (λ z. e (is ∙ z)) in
+        let known = some-serial (getD s 0 0 % 16) (λ z. e (is ∙ z)) in
         rw (eq-eqb (length s) 2 two, eq-eqb (getD s 1 0) 10 lf, le-leb 48 (getD s 0 0) h, le-leb (getD s 0 0) 57 l, known)
 
 pub form-of-spec : {M : Type 1} → statement M

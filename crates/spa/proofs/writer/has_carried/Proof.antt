@@ -9,12 +9,10 @@ use Rattle.places.proofs.Chain.{flat}
 use Rattle.spa.proofs.writer.has_carried.Statement.{statement}
 use Rattle.spa.proofs.writer.has_carried.Tie as tie
 
-returns : tie.Need-returns
+pub has-carried-spec : {M : Type 1} → statement M
 unfolding hasCarried carriesOf has
-returns c =
+has-carried-spec = tie.close (tie.spec (λ c κs. search needs) (λ c κs. search needs)
+    (λ c.
     let r = c .before .before .args .r in
     simp (c .before .has-full-date .ensures, c .has-thousandths .ensures)
-    (flat (hasDate fullDate (r .date)) (hasFraction thousandths (r .fraction) ∷ []))
-
-pub has-carried-spec : {M : Type 1} → statement M
-has-carried-spec = tie.close (tie.spec (λ c κs. search needs) (λ c κs. search needs) returns)
+    (flat (hasDate fullDate (r .date)) (hasFraction thousandths (r .fraction) ∷ []))))

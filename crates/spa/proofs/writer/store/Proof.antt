@@ -5,11 +5,9 @@ use Rattle.spa.specs.Stored.{endStored}
 use Rattle.spa.proofs.writer.store.Statement.{statement}
 use Rattle.spa.proofs.writer.store.Tie as tie
 
-returns : tie.Need-returns
-returns c =
+pub store-spec : {M : Type 1} → statement M
+store-spec = tie.close (tie.spec (λ c κs. search needs) (λ c κs. search needs) (λ c. search needs)
+    (λ c.
     let k = c .before .before .before .before .before .before in
     let e = k .before .before .before in
-    c .before .before .store-end .ensures ∙ ap endStored (k .store-front .ensures) ∙ end-stored (e .args .r) (now (e .args .out)) (e .pre)
-
-pub store-spec : {M : Type 1} → statement M
-store-spec = tie.close (tie.spec (λ c κs. search needs) (λ c κs. search needs) (λ c. search needs) returns)
+    c .before .before .store-end .ensures ∙ ap endStored (k .store-front .ensures) ∙ end-stored (e .args .r) (now (e .args .out)) (e .pre)))

@@ -6,13 +6,6 @@ use Rattle.places.proofs.Wrote.{alwaysHasWords, alwaysExpressible, refused, lay
 use Rattle.spa.proofs.writer.write.Statement.{statement}
 use Rattle.spa.proofs.writer.write.Tie as tie
 
-returns : tie.Need-returns
-unfolding alwaysExpressible alwaysHasWords has
-returns c =
-    let k = c .before .before .before .before .before in
-    let a = k .before .before .before .before .before .before .args in
-    wrote-bytes spa (a .r) (now (a .out)) true (layout-has-words spaLayout refl (a .r)) (k .answer .given .0 .0) (cc) _ (c .before .before .store .ensures)
-
 pub write-spec : {M : Type 1} → statement M
 unfolding alwaysExpressible alwaysHasWords has
 write-spec =
@@ -22,7 +15,11 @@ write-spec =
     (λ c κs.
     let a = c .before .before .before .before .before .before .before .before .args in
     storable spa (a .r) (now (a .out)) true (layout-has-words spaLayout refl (a .r)) (c .before .before .answer .given .0 .0) (cc))
-    (λ c. search needs) (λ c. search needs) returns
+    (λ c. search needs) (λ c. search needs)
+    (λ c.
+    let k = c .before .before .before .before .before in
+    let a = k .before .before .before .before .before .before .args in
+    wrote-bytes spa (a .r) (now (a .out)) true (layout-has-words spaLayout refl (a .r)) (k .answer .given .0 .0) (cc) _ (c .before .before .store .ensures))
     (λ c.
     let a = c .before .before .before .before .before .before .before .args in
     refused spa (a .r) (now (a .out)) true (layout-has-words spaLayout refl (a .r)) (c .before .answer2 .given .0 .0) (cc)))

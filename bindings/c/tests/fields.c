@@ -1,0 +1,221 @@
+/*
+ * The header's functions over records and structs, on values that are known. Compiled as C and as C++, under the sanitizers.
+ * Records come from blocks, form 9, which spell every field.
+ */
+#include <stdio.h>
+#include <string.h>
+
+#include "lindenscoop.h"
+
+#define CHECK(test) check((test), __LINE__, #test)
+
+static unsigned passed, failed;
+
+static void check(bool holds, int line, const char *test)
+{
+    if (holds) {
+        passed++;
+        return;
+    }
+    failed++;
+    fprintf(stderr, "fields.c: line %d: not %s\n", line, test);
+}
+
+static const char absent[] = "date=-\ntime=00:00:00\nfraction=-\nchannel=-\nsync=-\nfix=-\nutc=-\nsummer=-\nchange=-\nleap=-\noffset=-\nposition=-\ndsp=-\nlsp=-\n";
+static const char whole[] = "date=24-02-29\ntime=23:59:60\nfraction=0000431\nchannel=1\nsync=no\nfix=yes\nutc=no\nsummer=yes\nchange=no\nleap=yes\noffset=-03:30\nposition=-047.3500 +008.0625 0431\ndsp=no\nlsp=yes\n";
+static const char other[] = "date=day-060\ntime=01:02:03\nfraction=431\nchannel=0\nsync=yes\nfix=no\nutc=yes\nsummer=no\nchange=yes\nleap=no\noffset=+05:45\nposition=+000.0000 -180.0000 0000\ndsp=yes\nlsp=no\n";
+
+static lindenscoop_record record_of(const char *block)
+{
+    lindenscoop_record r;
+    memset(&r, 0xa5, sizeof r);
+    CHECK(lindenscoop_read(LINDENSCOOP_BLOCK, block, strlen(block), &r) == LINDENSCOOP_OK);
+    return r;
+}
+
+/* No field is there, and what stands behind the pointers stays. */
+static void check_nothing(const lindenscoop_record *r)
+{
+    uint32_t a = 77, b = 77, c = 77;
+    int32_t x = -77, y = -77;
+    bool yes = true;
+    CHECK(!lindenscoop_get_date(r, &a, &b, &c) && !lindenscoop_get_day_of_year(r, &a));
+    CHECK(!lindenscoop_get_fraction(r, &a, &b) && !lindenscoop_get_channel(r, &a));
+    CHECK(!lindenscoop_get_offset(r, &x) && !lindenscoop_get_position(r, &x, &y, &c));
+    CHECK(!lindenscoop_get_sync(r, &yes) && !lindenscoop_get_fix(r, &yes) && !lindenscoop_get_utc(r, &yes));
+    CHECK(!lindenscoop_get_summer(r, &yes) && !lindenscoop_get_change(r, &yes) && !lindenscoop_get_leap(r, &yes));
+    CHECK(!lindenscoop_get_dsp(r, &yes) && !lindenscoop_get_lsp(r, &yes));
+    CHECK(!lindenscoop_is_yes(r->sync) && !lindenscoop_is_no(r->sync));
+    CHECK(a == 77 && b == 77 && c == 77 && x == -77 && y == -77 && yes);
+}
+
+/* The flags in the order of the struct, y and n, - for one that is not there */
+static void spell_flags(const lindenscoop_record *r, char *word)
+{
+    bool yes[8] = {false, false, false, false, false, false, false, false};
+    bool there[8];
+    there[0] = lindenscoop_get_sync(r, yes);
+    there[1] = lindenscoop_get_fix(r, yes + 1);
+    there[2] = lindenscoop_get_utc(r, yes + 2);
+    there[3] = lindenscoop_get_summer(r, yes + 3);
+    there[4] = lindenscoop_get_change(r, yes + 4);
+    there[5] = lindenscoop_get_leap(r, yes + 5);
+    there[6] = lindenscoop_get_dsp(r, yes + 6);
+    there[7] = lindenscoop_get_lsp(r, yes + 7);
+    for (int i = 0; i < 8; i++)
+        word[i] = there[i] ? (yes[i] ? 'y' : 'n') : '-';
+    word[8] = '\0';
+}
+
+static void check_flags(const lindenscoop_record *r, const char *expected)
+{
+    char word[9];
+    spell_flags(r, word);
+    CHECK(strcmp(word, expected) == 0);
+    CHECK(lindenscoop_is_yes(r->sync) == (expected[0] == 'y') && lindenscoop_is_no(r->sync) == (expected[0] == 'n'));
+}
+
+static void check_whole(void)
+{
+    uint32_t a = 0, b = 0, c = 0;
+    int32_t x = 0, y = 0;
+    lindenscoop_record r = record_of(whole);
+    CHECK(lindenscoop_get_date(&r, &a, &b, &c) && a == 2024 && b == 2 && c == 29);
+    CHECK(!lindenscoop_get_day_of_year(&r, &a) && a == 2024);
+    CHECK(lindenscoop_get_fraction(&r, &a, &b) && a == 431 && b == 10000000);
+    CHECK(lindenscoop_get_channel(&r, &a) && a == 1);
+    CHECK(lindenscoop_get_offset(&r, &x) && x == -210);
+    CHECK(lindenscoop_get_position(&r, &x, &y, &a) && x == -473500 && y == 80625 && a == 431);
+    check_flags(&r, "nynynyny");
+}
+
+static void check_other(void)
+{
+    uint32_t a = 77, b = 77, c = 77;
+    int32_t x = 1, y = 0;
+    lindenscoop_record r = record_of(other);
+    CHECK(!lindenscoop_get_date(&r, &a, &b, &c) && a == 77 && b == 77 && c == 77);
+    CHECK(lindenscoop_get_day_of_year(&r, &a) && a == 60);
+    CHECK(lindenscoop_get_fraction(&r, &a, &b) && a == 431 && b == 1000);
+    CHECK(lindenscoop_get_channel(&r, &a) && a == 0);
+    CHECK(lindenscoop_get_offset(&r, &x) && x == 345);
+    CHECK(lindenscoop_get_position(&r, &x, &y, &a) && x == 0 && y == -1800000 && a == 0);
+    check_flags(&r, "ynynynyn");
+}
+
+/* Kinds that no field has, from a struct that was never filled in. */
+static void check_no_kinds(void)
+{
+    static const uint32_t kinds[] = {3, 100, 0x80000000u, 0xffffffffu};
+    for (size_t k = 0; k < sizeof kinds / sizeof *kinds; k++) {
+        uint32_t numbers[LINDENSCOOP_RECORD_NUMBERS];
+        lindenscoop_record r;
+        for (size_t i = 0; i < LINDENSCOOP_RECORD_NUMBERS; i++)
+            numbers[i] = kinds[k];
+        memcpy(&r, numbers, sizeof r);
+        check_nothing(&r);
+    }
+}
+
+/* Each flag is got from its own place: one at a time, the others not there. */
+static void check_each_flag(void)
+{
+    for (size_t i = 0; i < 8; i++)
+        for (int yes = 0; yes < 2; yes++) {
+            lindenscoop_record r = record_of(absent);
+            uint32_t *const flags[] = {&r.sync, &r.fix, &r.utc, &r.summer, &r.change, &r.leap, &r.dsp, &r.lsp};
+            char expected[] = "--------";
+            *flags[i] = lindenscoop_flag(yes != 0);
+            expected[i] = yes ? 'y' : 'n';
+            check_flags(&r, expected);
+        }
+}
+
+/* Signs and magnitudes that no record has: no answer, and no overflow. */
+static void check_signs(void)
+{
+    uint32_t c = 77;
+    int32_t x = -77, y = -77;
+    lindenscoop_record r = record_of(whole);
+    r.offset_minutes = r.longitude = 0x80000000u;
+    CHECK(!lindenscoop_get_offset(&r, &x) && x == -77);
+    CHECK(!lindenscoop_get_position(&r, &x, &y, &c) && x == -77 && y == -77 && c == 77);
+    r.longitude = 1;
+    r.latitude = 0xffffffffu;
+    CHECK(!lindenscoop_get_position(&r, &x, &y, &c) && x == -77);
+    r.latitude = r.offset_minutes = 0x7fffffffu;
+    CHECK(lindenscoop_get_offset(&r, &x) && x == -0x7fffffff);
+    CHECK(lindenscoop_get_position(&r, &x, &y, &c) && x == -0x7fffffff && y == 1 && c == 431);
+    r.offset_negative = r.south = 2;
+    CHECK(!lindenscoop_get_offset(&r, &y) && !lindenscoop_get_position(&r, &y, &y, &c) && y == 1);
+    r.year = 100;
+    CHECK(!lindenscoop_get_date(&r, &c, &c, &c) && c == 431);
+    lindenscoop_set_offset(&r, INT32_MIN);
+    CHECK(r.offset_negative == 1 && r.offset_minutes == 0x80000000u && !lindenscoop_get_offset(&r, &y));
+}
+
+/* What is set and written is the block that was meant. */
+static void check_set(const char *block, bool full)
+{
+    char out[LINDENSCOOP_LONGEST_STRING + 1];
+    size_t written = 0;
+    lindenscoop_record r = record_of(absent);
+    check_nothing(&r);
+    r.hour = full ? 23 : 1, r.minute = full ? 59 : 2, r.second = full ? 60 : 3;
+    if (full)
+        lindenscoop_set_date(&r, 2024, 2, 29);
+    else
+        lindenscoop_set_day_of_year(&r, 60);
+    lindenscoop_set_fraction(&r, full ? LINDENSCOOP_TEN_MILLIONTHS : LINDENSCOOP_THOUSANDTHS, 431);
+    lindenscoop_set_channel(&r, full);
+    r.sync = r.utc = r.change = r.dsp = lindenscoop_flag(!full);
+    r.fix = r.summer = r.leap = r.lsp = lindenscoop_flag(full);
+    lindenscoop_set_offset(&r, full ? -210 : 345);
+    lindenscoop_set_position(&r, full ? -473500 : 0, full ? 80625 : -1800000, full ? 431 : 0);
+    CHECK(lindenscoop_write(LINDENSCOOP_BLOCK, &r, out, sizeof out, &written) == LINDENSCOOP_OK);
+    out[written] = '\0';
+    CHECK(strcmp(out, block) == 0);
+    lindenscoop_set_date(&r, 1999, 12, 31);
+    CHECK(lindenscoop_write(LINDENSCOOP_BLOCK, &r, out, sizeof out, &written) == LINDENSCOOP_BAD_RECORD);
+}
+
+/* A refused read or search stores the empty record; a listener stores a record where it hands one out, and only there. */
+static void check_stored(void)
+{
+    static const char racal[] = "XGU000229000000\r";
+    lindenscoop_listener listener;
+    lindenscoop_record r, before, empty;
+    size_t place = 77, used = 77;
+    uint32_t year = 0, month = 0, day = 0;
+    memset(&empty, 0, sizeof empty);
+    memset(&r, 0xa5, sizeof r);
+    before = r;
+    CHECK(lindenscoop_start(LINDENSCOOP_RACAL, &listener) == LINDENSCOOP_OK);
+    CHECK(lindenscoop_feed(&listener, 'X', &r) == LINDENSCOOP_OK && memcmp(&r, &before, sizeof r) == 0);
+    CHECK(lindenscoop_feed_all(&listener, racal, 15, &used, &r) == LINDENSCOOP_OK && used == 15 && memcmp(&r, &before, sizeof r) == 0);
+    CHECK(lindenscoop_feed(&listener, '\r', &r) == LINDENSCOOP_HEARD);
+    CHECK(lindenscoop_get_date(&r, &year, &month, &day) && year == 2000 && month == 2 && day == 29);
+    r = before;
+    CHECK(lindenscoop_feed_all(&listener, racal, 16, &used, &r) == LINDENSCOOP_HEARD && used == 16 && r.day == 29 && r.sync == LINDENSCOOP_ABSENT);
+    CHECK(lindenscoop_read(LINDENSCOOP_RACAL, racal, 15, &r) == LINDENSCOOP_WRONG_LENGTH && memcmp(&r, &empty, sizeof r) == 0);
+    r = before;
+    CHECK(lindenscoop_search(LINDENSCOOP_RACAL, racal, 16, 1, &place, &r) == LINDENSCOOP_NOT_FOUND && place == 0 && memcmp(&r, &empty, sizeof r) == 0);
+    CHECK(lindenscoop_search(LINDENSCOOP_RACAL, racal, 16, 0, &place, &r) == LINDENSCOOP_OK && r.day == 29);
+    CHECK(lindenscoop_start(LINDENSCOOP_FRAME, &listener) == LINDENSCOOP_UNKNOWN_FORM && lindenscoop_feed(&listener, 'X', &r) == LINDENSCOOP_BAD_STATE);
+}
+
+int main(void)
+{
+    lindenscoop_record r = record_of(absent);
+    check_nothing(&r);
+    check_whole();
+    check_other();
+    check_no_kinds();
+    check_each_flag();
+    check_signs();
+    check_set(whole, true);
+    check_set(other, false);
+    check_stored();
+    printf("fields: %u passed, %u failed\n", passed, failed);
+    return failed ? 1 : 0;
+}

@@ -1,0 +1,7 @@
+//! What programs rest on beside the library's own answers: forms by name, places in a stream, refusals as errors, vectors, years.
+
+mod dates;
+mod forms;
+mod places;
+mod refusals;
+mod writing;

@@ -1,0 +1,144 @@
+//! A record as a row of CSV and as a line of JSON, with the columns of bindings/heard_csv.columns. An absent field is an empty cell, or null.
+
+use lindenscoop::{Date, Fraction, Record};
+
+pub const COLUMNS: &str = include!("../../bindings/heard_csv.columns");
+const COUNT: usize = 17;
+
+/// What stands in a cell.
+#[derive(Clone, Copy)]
+enum Cell {
+    Absent,
+    Flag(bool),
+    Number(u32),
+    /// ten-thousandths
+    Degrees(i32),
+    Date(u32, u32, u32),
+    Time(u32, u32, u32),
+    Fraction(Fraction),
+    /// minutes
+    Offset(i32),
+}
+
+fn cell<T>(field: Option<T>, make: impl Fn(T) -> Cell) -> Cell {
+    field.map_or(Cell::Absent, make)
+}
+
+fn cells(r: &Record) -> [Cell; COUNT] {
+    let (date, day_of_year) = match r.date {
+        None => (Cell::Absent, Cell::Absent),
+        Some(Date::Full { year, month, day }) => (Cell::Date(year, month, day), Cell::Absent),
+        Some(Date::DayOfYear(day)) => (Cell::Absent, Cell::Number(day)),
+    };
+    [
+        date,
+        day_of_year,
+        Cell::Time(r.hour, r.minute, r.second),
+        cell(r.fraction, Cell::Fraction),
+        cell(r.channel, Cell::Number),
+        cell(r.sync, Cell::Flag),
+        cell(r.fix, Cell::Flag),
+        cell(r.utc, Cell::Flag),
+        cell(r.summer, Cell::Flag),
+        cell(r.change, Cell::Flag),
+        cell(r.leap, Cell::Flag),
+        cell(r.offset, Cell::Offset),
+        cell(r.position, |p| Cell::Degrees(p.latitude)),
+        cell(r.position, |p| Cell::Degrees(p.longitude)),
+        cell(r.position, |p| Cell::Number(p.altitude)),
+        cell(r.dsp, Cell::Flag),
+        cell(r.lsp, Cell::Flag),
+    ]
+}
+
+/// A number with at least so many digits.
+pub fn number(out: &mut Vec<u8>, value: u64, digits: usize) {
+    let (mut text, mut at, mut rest) = ([b'0'; 20], 20, value);
+    while rest > 0 {
+        at -= 1;
+        text[at] = b'0' + (rest % 10) as u8;
+        rest /= 10;
+    }
+    out.extend_from_slice(&text[at.min(20 - digits)..]);
+}
+
+/// Three numbers of two digits, with a byte between them; a record that was heard has none of more.
+fn three(parts: [u32; 3], between: u8) -> [u8; 8] {
+    let [[a, b], [c, d], [e, f]] =
+        parts.map(|part| [b'0' + (part / 10 % 10) as u8, b'0' + (part % 10) as u8]);
+    [a, b, between, c, d, between, e, f]
+}
+
+fn plain(out: &mut Vec<u8>, cell: Cell) {
+    match cell {
+        Cell::Absent => {}
+        Cell::Flag(yes) => out.extend_from_slice(if yes { b"yes" } else { b"no" }),
+        Cell::Number(value) => number(out, value.into(), 1),
+        Cell::Degrees(value) => {
+            if value < 0 {
+                out.push(b'-');
+            }
+            number(out, (value.unsigned_abs() / 10_000).into(), 1);
+            out.push(b'.');
+            number(out, (value.unsigned_abs() % 10_000).into(), 4);
+        }
+        Cell::Date(year, month, day) => {
+            out.extend_from_slice(b"20");
+            out.extend_from_slice(&three([year, month, day], b'-'));
+        }
+        Cell::Time(hour, minute, second) => {
+            out.extend_from_slice(&three([hour, minute, second], b':'))
+        }
+        Cell::Fraction(fraction) => {
+            out.extend_from_slice(b"0.");
+            number(out, fraction.value().into(), fraction.digits());
+        }
+        Cell::Offset(minutes) => {
+            out.push(if minutes < 0 { b'-' } else { b'+' });
+            number(out, (minutes.unsigned_abs() / 60).into(), 2);
+            out.push(b':');
+            number(out, (minutes.unsigned_abs() % 60).into(), 2);
+        }
+    }
+}
+
+fn json(out: &mut Vec<u8>, cell: Cell) {
+    match cell {
+        Cell::Absent => out.extend_from_slice(b"null"),
+        Cell::Flag(yes) => out.extend_from_slice(if yes { b"true" } else { b"false" }),
+        Cell::Number(_) | Cell::Degrees(_) => plain(out, cell),
+        Cell::Date(..) | Cell::Time(..) | Cell::Fraction(_) | Cell::Offset(_) => {
+            out.push(b'"');
+            plain(out, cell);
+            out.push(b'"');
+        }
+    }
+}
+
+/// The cells behind the place: `,..,..` without an end of line.
+pub fn csv_row(out: &mut Vec<u8>, record: &Record) {
+    for cell in cells(record) {
+        out.push(b',');
+        plain(out, cell);
+    }
+}
+
+/// The keys of JSON, each as `,"key":`.
+pub struct Keys([Vec<u8>; COUNT]);
+
+impl Keys {
+    pub fn new() -> Keys {
+        let mut names = COLUMNS.split(',');
+        Keys(std::array::from_fn(|_| {
+            format!(",\"{}\":", names.next().expect("17 columns")).into_bytes()
+        }))
+    }
+}
+
+/// The members behind the place: `,"date":..,"lsp":..`.
+pub fn json_members(out: &mut Vec<u8>, record: &Record, keys: &Keys) {
+    for (key, cell) in keys.0.iter().zip(cells(record)) {
+        out.extend_from_slice(key);
+        json(out, cell);
+    }
+}

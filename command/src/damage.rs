@@ -1,0 +1,49 @@
+//! What happens to strings on a cable.
+
+/// The string damaged, in a way and at a place that go with the number, so that a run can be repeated. No valid string is left in it.
+pub fn damaged(string: &[u8], number: u64, is_valid: impl Fn(&[u8]) -> bool) -> Vec<u8> {
+    for attempt in number.. {
+        // the step spreads the damage over the string
+        let at = (attempt * 37 % string.len() as u64) as usize;
+        let bytes = one(string, attempt % 4, at);
+        if !is_valid(&bytes) {
+            return bytes;
+        }
+    }
+    Vec::new()
+}
+
+fn one(string: &[u8], way: u64, at: usize) -> Vec<u8> {
+    let mut bytes = string.to_vec();
+    match way {
+        // a bit turned
+        0 => bytes[at] ^= 0x10,
+        // a byte lost
+        1 => {
+            bytes.remove(at);
+        }
+        // a byte too many
+        2 => bytes.insert(at, b'?'),
+        // the end lost
+        _ => bytes.truncate(at.max(1)),
+    }
+    bytes
+}
+
+#[cfg(test)]
+mod tests {
+    use super::*;
+    use lindenscoop::{search, Form};
+
+    #[test]
+    fn no_string_is_left() {
+        // of 31 bytes, so that every way comes to every place
+        let string = b"CH0 01.01.24 12:00:00.0000000\r\n";
+        for number in 1..200 {
+            let bytes = damaged(string, number, |bytes| {
+                search(Form::CAPTURE, bytes, 0).is_ok()
+            });
+            assert!(search(Form::CAPTURE, &bytes, 0).is_err(), "{bytes:?}");
+        }
+    }
+}

@@ -1,0 +1,117 @@
+//! The texts of --help.
+
+pub const ALL: &str = "\
+lindenscoop reads, writes and listens for the time strings of satellite clocks.
+A field that was not sent is absent, never 0; a damaged string is refused.
+
+  lindenscoop listen /dev/ttyUSB0 --form standard     print what a clock sends
+  lindenscoop export --csv --form standard clock.log  a log as CSV or JSON
+  lindenscoop why clock.log                           why a log is silent
+  lindenscoop write racal < records.json              strings of JSON lines
+  lindenscoop simulate standard --pty                 strings without a clock
+
+Each has its own --help. lindenscoop --version prints the version.
+
+Forms, by name or number: standard (1), capture (2), erlangen (3), spa (4), racal (5),
+sysplex (6), computime (7); write and simulate also take frame (8) and block (9).
+
+Exit status: 0 heard (or written), 1 nothing heard, 2 a wrong call, 3 a read or write failed.
+";
+
+pub const LISTEN: &str = "\
+lindenscoop listen DEVICE|FILE|- --form FORM [--baud N] [--framing 8N1] [--record FILE]
+
+Prints each record as a block and an empty line, at once when its string has arrived.
+Ctrl-C ends it; the counts of bytes and telegrams come on standard error.
+
+A serial port is set raw, with this speed and framing, and put back at the end:
+  --baud N        bits a second, 19200 if not given
+  --framing DPS   data bits 7 or 8, parity N, E or O, stop bits 1 or 2; 8N1 if not given
+  --form FORM     standard, capture, erlangen, spa, racal, sysplex, computime, or 1 to 7
+  --record FILE   keeps the bytes as they came in a new file, for `lindenscoop why`
+
+A file or pipe is read to its end; - is standard input.
+
+  lindenscoop listen /dev/ttyUSB0 --form standard --baud 9600 --framing 7E2
+
+Exit status: 0 heard, 1 nothing heard, 2 a wrong call, 3 a read or write failed (a port
+that was closed or unplugged, a full disk, an ended pipe).
+";
+
+pub const EXPORT: &str = "\
+lindenscoop export --json|--csv --form FORM FILE..|-
+
+Prints a line for each record, with the place of its string's first byte, counted from 0.
+A field that was not sent is null in JSON and an empty cell in CSV, never 0.
+
+  --json          an object to a line: {\"place\":0,\"date\":\"2024-01-01\",..}
+  --csv           a line of names, then a row for each record
+  --form FORM     standard, capture, erlangen, spa, racal, sysplex, computime, or 1 to 7
+  --baud, --framing   where a file is a serial port, as for listen
+
+Dates are year-month-day, time is as the clock sent it, offset is hours:minutes of local
+time minus UTC, latitude and longitude are degrees, north and east positive, altitude is
+metres. A fraction has 3 or 7 digits, as it was sent. With several files each line begins
+with the file's name. `lindenscoop write` makes the strings of the JSON lines again.
+
+Exit status: 0 heard, 1 nothing heard, 2 a wrong call, 3 a read or write failed.
+";
+
+pub const WHY: &str = "\
+lindenscoop why FILE|-
+
+Explains why nothing is heard in a file. It tries each form from standard to computime and
+says how many strings were heard, which were nearly right, with what number they were
+refused, what it means, and at which byte they fail. Then it gives hints on what happened
+to the recording: a port that was not raw, parity bits, a hex dump, converted ends of line,
+an empty file. A hint says how many strings are heard once the damage is undone.
+
+The first 16 MiB of a longer file are looked at. Bytes are counted from 0.
+
+Exit status: 0 a string of some form was heard, 1 none, 2 a wrong call, 3 a read or write
+failed.
+";
+
+pub const WRITE: &str = "\
+lindenscoop write FORM [FILE..|-]
+
+Makes the strings of JSON lines as `lindenscoop export --json` prints them, and writes them
+one behind the other to standard output. Without a file it reads standard input.
+
+  FORM   standard, capture, erlangen, spa, racal, sysplex, computime, frame, block, or 1 to 9
+
+A key that is null or not there is an absent field; time must be there. place and file are
+passed over. A line that is no record, or that the form cannot carry, is refused with its
+number and the reason, and the other lines are written.
+
+  echo '{\"date\":\"2024-02-29\",\"time\":\"12:00:00\"}' | lindenscoop write racal
+
+Exit status: 0 every line was written, 1 a line was refused or there was none, 2 a wrong
+call, 3 a read or write failed.
+";
+
+pub const SIMULATE: &str = "\
+lindenscoop simulate FORM [--pty | --to FILE] [--damage N] [--count N] [--interval S]
+
+Sends strings of the running time (UTC, by this computer's clock), one a second at the full
+second, to test a recorder without a clock. They go to standard output, or:
+
+  --pty           to a new pseudo-terminal, whose name is printed first; it is in its
+                  default mode, as a port is, and the recorder has to set it raw
+  --to FILE       to a file (which is made new), a named pipe or a serial port; a port is
+                  set raw, with --baud and --framing as for listen
+  --damage N      each Nth string is damaged: a bit turned, a byte lost, a byte too many,
+                  the end lost, in turn; no valid string is left in it
+  --count N       ends after N strings, damaged ones included
+  --interval S    seconds between strings, 1 if not given; 0 sends without a pause
+  FORM            standard, capture, erlangen, spa, racal, sysplex, computime, frame, block,
+                  or 1 to 9
+
+Ctrl-C ends it; the counts come on standard error. lost= counts strings for which a
+pseudo-terminal that nobody reads had no room.
+
+  lindenscoop simulate standard --pty --damage 5        prints /dev/pts/7, say
+  lindenscoop listen /dev/pts/7 --form standard         in another window
+
+Exit status: 0 sent, 1 nothing sent, 2 a wrong call, 3 a write failed.
+";

@@ -1,0 +1,77 @@
+//! What may have happened to a recording. A hint is given where undoing the damage brings strings back, and says how many.
+
+use lindenscoop::{read, telegrams, Form};
+
+use crate::{forms, repairs};
+
+/// Hints on bytes in which so many strings of the forms 1 to 7 were heard.
+pub fn hints(bytes: &[u8], heard: &[usize]) -> Vec<String> {
+    if bytes.is_empty() {
+        return vec!["the file is empty: no byte was recorded; check cable and clock, and that the recorder had the port open".to_string()];
+    }
+    let mut hints = Vec::new();
+    let mut told = Vec::new();
+    for repair in repairs::ALL {
+        let gain = (repair.undo)(bytes).and_then(|repaired| gained(&repaired, heard));
+        // two ways to undo the same damage are one hint
+        let Some((form, count)) = gain.filter(|gain| !told.contains(&(*gain, repair.advice)))
+        else {
+            continue;
+        };
+        told.push(((form, count), repair.advice));
+        let name = forms::name(form);
+        hints.push(format!(
+            "{}; with that undone, strings of {name} heard: {count}. {}",
+            repair.cause, repair.advice
+        ));
+    }
+    if hints.is_empty() && heard.iter().all(|count| *count == 0) {
+        hints.push(from_bytes(bytes));
+    }
+    hints
+}
+
+/// The form of which most strings are heard that were not heard before.
+fn gained(bytes: &[u8], heard: &[usize]) -> Option<(Form, usize)> {
+    let counts = forms::SERIAL.map(|number| {
+        let form = Form(number);
+        let count = telegrams(form, bytes).map_or(0, Iterator::count);
+        (
+            form,
+            count,
+            count.saturating_sub(heard[number as usize - 1]),
+        )
+    });
+    let best = counts
+        .max_by_key(|(_, _, gain)| *gain)
+        .filter(|(_, _, gain)| *gain > 0);
+    best.map(|(form, count, _)| (form, count))
+}
+
+/// What the bytes alone tell, where nothing brings a string back.
+fn from_bytes(bytes: &[u8]) -> String {
+    let total = bytes.len();
+    let text = bytes
+        .iter()
+        .filter(|byte| matches!(byte, 0x20..=0x7e | b'\r' | b'\n' | 1..=3))
+        .count();
+    let high = bytes.iter().filter(|byte| **byte >= 0x80).count();
+    let has = |word: &[u8]| bytes.windows(word.len()).any(|part| part == word);
+    if bytes
+        .get(..100)
+        .is_some_and(|head| read(Form::FRAME, head).is_ok())
+    {
+        "the file begins with an IEEE1344 frame, form 8, which is not listened for".to_string()
+    } else if has(b"\ntime=") && has(b"\nsync=") {
+        "the file holds blocks, as `lindenscoop listen` prints them, and no strings; `listen --record FILE` keeps the bytes".to_string()
+    } else if text * 3 < total * 2 {
+        let other = total - text;
+        format!("{other} of {total} bytes are no text: the speed or the framing of the port was probably wrong; compare --baud and --framing with the clock's setting")
+    } else if high > 0 {
+        format!("bit 7 is set in {high} bytes: the line may have been disturbed, or its parity set wrongly")
+    } else if !bytes.contains(&b'\r') && !bytes.contains(&3) {
+        "there is no CR and no ETX in the file, with one of which each string ends: the recorder left control bytes out; record with `lindenscoop listen PORT --record FILE`".to_string()
+    } else {
+        "the bytes are text, but of none of these forms; compare the clock's setting of its string with `lindenscoop --help`".to_string()
+    }
+}

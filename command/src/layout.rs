@@ -1,0 +1,287 @@
+//! The layouts of the serial forms, to say where a string that is refused goes wrong. What is valid the library alone decides.
+
+use lindenscoop::{read, Form, Refusal};
+
+use crate::forms;
+
+/// A valid string, and below each of its bytes a letter that names its field; a dot is a byte that never changes.
+struct Layout {
+    sample: &'static [u8],
+    fields: &'static [u8],
+    /// so many bytes at the head tell the form
+    head: usize,
+}
+
+const LAYOUTS: [Layout; 7] = [
+    Layout {
+        sample: b"\x02D:01.01.24;T:1;U:12.00.00;  U \x03",
+        fields: b"...dd.mm.yy...w...HH.MM.SS.uvxa.",
+        head: 3,
+    },
+    Layout {
+        sample: b"CH0 01.01.24 12:00:00.0000000\r\n",
+        fields: b"..n.dd.mm.yy.HH.MM.SS.fffffff..",
+        head: 4,
+    },
+    Layout {
+        sample: b"\x0201.01.24; 1; 13:00:00; +01:00; #*     ; 47.3500N   8.0625E  431m\x03",
+        fields: b".dd.mm.yy..w..HH.MM.SS..+oo.oo..uvscl.i.ppp.qqqqN.ppp.qqqqE.hhhh..",
+        head: 10,
+    },
+    Layout {
+        sample: b">900WD:24-01-01 12.00;00.000:3A\r",
+        fields: b".......yy.mm.dd.HH.MM.SS.fff.kk.",
+        head: 7,
+    },
+    Layout {
+        sample: b"XGU000229000000\r",
+        fields: b"...yymmddHHMMSS.",
+        head: 3,
+    },
+    Layout {
+        sample: b"\x01366:23:59:60?\r\n",
+        fields: b".jjj.HH.MM.SSQ..",
+        head: 5,
+    },
+    Layout {
+        sample: b"T:24:01:01:01:12:00:00\r\n",
+        fields: b"..yy.mm.dd.ww.HH.MM.SS..",
+        head: 5,
+    },
+];
+
+const DIGITS: &[u8] = b"0123456789";
+const PADDED: &[u8] = b" 0123456789";
+
+/// The name of a field and the bytes that its places take.
+fn field(letter: u8) -> (&'static str, &'static [u8]) {
+    match letter {
+        b'd' => ("the day", DIGITS),
+        b'm' => ("the month", DIGITS),
+        b'y' => ("the year", DIGITS),
+        b'j' => ("the day of the year", DIGITS),
+        b'w' => ("the weekday", DIGITS),
+        b'H' => ("the hour", DIGITS),
+        b'M' => ("the minute", DIGITS),
+        b'S' => ("the second", DIGITS),
+        b'f' => ("the fraction", DIGITS),
+        b'n' => ("the channel", DIGITS),
+        b'u' => ("the letter for sync", b"# "),
+        b'Q' => ("the letter for sync", b" ?"),
+        b'v' => ("the letter for fix", b"* "),
+        b'x' => ("the letter for utc and summer", b"U S"),
+        b'a' => ("the letter for change and leap", b"!A "),
+        b's' => ("the letter for summer", b"S "),
+        b'c' => ("the letter for change", b"! "),
+        b'l' => ("the letter for leap", b"A "),
+        b'i' => ("the letter of second 60", b"L "),
+        b'+' => ("the sign of the offset", b"+-"),
+        b'o' => ("the offset", DIGITS),
+        b'p' => ("whole degrees", PADDED),
+        b'q' => ("parts of a degree", DIGITS),
+        b'N' => ("north or south", b"NS"),
+        b'E' => ("east or west", b"EW"),
+        b'h' => ("the altitude", PADDED),
+        b'k' => ("the checksum", b"0123456789ABCDEF"),
+        _ => ("a fixed byte", b""),
+    }
+}
+
+fn layout(form: Form) -> &'static Layout {
+    &LAYOUTS[form.0 as usize - 1]
+}
+
+impl Layout {
+    fn takes(&self, at: usize, byte: u8) -> bool {
+        match self.fields[at] {
+            b'.' => self.sample[at] == byte,
+            letter => field(letter).1.contains(&byte),
+        }
+    }
+
+    /// The first place that does not fit.
+    fn misfit(&self, window: &[u8]) -> Option<usize> {
+        (0..window.len()).find(|at| !self.takes(*at, window[*at]))
+    }
+
+    fn place_of(&self, letter: u8) -> Option<usize> {
+        self.fields.iter().position(|field| *field == letter)
+    }
+
+    /// The number that a field's digits spell.
+    fn number(&self, window: &[u8], letter: u8) -> Option<u32> {
+        let places = (0..window.len()).filter(|at| self.fields[*at] == letter);
+        let text: String = places.map(|at| char::from(window[at])).collect();
+        text.trim_start().parse().ok()
+    }
+
+    /// The field whose number is out of its range; where each is in it there is no such date, or no such offset or position.
+    fn out_of_range(&self, window: &[u8]) -> usize {
+        let ranges = [
+            (b'n', 0, 1),
+            (b'j', 1, 366),
+            (b'm', 1, 12),
+            (b'd', 1, 31),
+            (b'w', 1, 7),
+            (b'H', 0, 23),
+            (b'M', 0, 59),
+            (b'S', 0, 60),
+        ];
+        let field = ranges.into_iter().find(|(letter, least, most)| {
+            let number = self.number(window, *letter);
+            number.is_some_and(|number| number < *least || number > *most)
+        });
+        // the last day of a month is the last that can be too late
+        let letter = field.map_or(b'd', |(letter, _, _)| letter);
+        self.place_of(letter).unwrap_or(0)
+    }
+}
+
+/// Which bytes each place of a form takes, as a table, for a look at every place of a long file.
+pub struct Places {
+    takes: Vec<[bool; 256]>,
+    head: usize,
+}
+
+impl Places {
+    pub fn new(form: Form) -> Places {
+        let layout = layout(form);
+        let takes = |at| std::array::from_fn(|byte| layout.takes(at, byte as u8));
+        Places {
+            takes: (0..layout.fields.len()).map(takes).collect(),
+            head: layout.head,
+        }
+    }
+
+    /// Whether a string was meant to begin here: its head stands there, or all but an eighth of its bytes fit.
+    pub fn is_near(&self, rest: &[u8]) -> bool {
+        let length = self.takes.len();
+        let most = if rest.len() < length { 0 } else { length / 8 };
+        let mut misfits = 0;
+        for (at, (takes, byte)) in self.takes.iter().zip(rest).enumerate() {
+            misfits += usize::from(!takes[usize::from(*byte)]);
+            if misfits > most {
+                return false;
+            }
+            if misfits == 0 && at + 1 == self.head {
+                return true;
+            }
+        }
+        rest.len() >= length
+    }
+}
+
+/// Why the string that was meant to begin here is refused, and at which of its bytes.
+pub fn failure(form: Form, rest: &[u8]) -> Option<(Refusal, usize)> {
+    let layout = layout(form);
+    let window = &rest[..rest.len().min(forms::length(form))];
+    let refusal = read(form, window).err()?;
+    let misfit = layout.misfit(window);
+    let at = match refusal {
+        Refusal::WrongLength => misfit.unwrap_or(window.len()),
+        // every byte may fit and a number still be padded wrongly
+        Refusal::WrongByte => misfit.or(layout.place_of(b'p')).unwrap_or(0),
+        Refusal::WrongChecksum => layout.place_of(b'k').unwrap_or(0),
+        Refusal::OutOfRange => layout.out_of_range(window),
+        _ => disagreement(form, window),
+    };
+    Some((refusal, at))
+}
+
+/// The weekday, where another one would do; else, in an Erlangen string, the letter of second 60 or a sign on a zero.
+fn disagreement(form: Form, window: &[u8]) -> usize {
+    let layout = layout(form);
+    let Some(weekday) = layout.fields.iter().rposition(|field| *field == b'w') else {
+        return 0;
+    };
+    let fits = (b'1'..=b'7').any(|day| {
+        let mut other = window.to_vec();
+        other[weekday] = day;
+        read(form, &other).is_ok()
+    });
+    let leap = layout
+        .place_of(b'i')
+        .filter(|at| (window[*at] == b'L') != (layout.number(window, b'S') == Some(60)));
+    match leap {
+        _ if fits => weekday,
+        Some(at) => at,
+        None => layout.place_of(b'+').unwrap_or(weekday),
+    }
+}
+
+fn byte_name(byte: u8) -> String {
+    let name = match byte {
+        1 => "SOH",
+        2 => "STX",
+        3 => "ETX",
+        b'\n' => "LF",
+        b'\r' => "CR",
+        b' ' => "space",
+        0x21..=0x7e => return format!("'{}'", char::from(byte)),
+        _ => return format!("byte {byte:02X}"),
+    };
+    name.to_string()
+}
+
+/// What stands at a place of a string and what belongs there, in words.
+pub fn described(form: Form, rest: &[u8], at: usize) -> String {
+    let layout = layout(form);
+    if at >= rest.len() {
+        return "the file ends here".to_string();
+    }
+    let found = byte_name(rest[at]);
+    match layout.fields[at] {
+        b'.' => format!("{found} instead of {}", byte_name(layout.sample[at])),
+        letter if !layout.takes(at, rest[at]) => format!("{found} in {}", field(letter).0),
+        letter => {
+            let end = (at..layout.fields.len()).find(|end| layout.fields[*end] != letter);
+            let spelled = &rest[at..end.unwrap_or(at + 1).min(rest.len())];
+            format!(
+                "in {}, which is \"{}\"",
+                field(letter).0,
+                spelled.escape_ascii()
+            )
+        }
+    }
+}
+
+#[cfg(test)]
+mod tests {
+    use super::*;
+
+    #[test]
+    fn samples_are_valid_and_fit() {
+        for number in forms::SERIAL {
+            let form = Form(number);
+            let layout = layout(form);
+            assert_eq!(layout.sample.len(), forms::length(form));
+            assert_eq!(layout.fields.len(), forms::length(form));
+            assert_eq!(layout.misfit(layout.sample), None, "form {number}");
+            assert!(read(form, layout.sample).is_ok(), "form {number}");
+        }
+    }
+
+    #[test]
+    fn places_of_refusals() {
+        let at =
+            |form, bytes: &[u8]| failure(form, bytes).map(|(refusal, at)| (refusal.number(), at));
+        assert_eq!(
+            at(Form::STANDARD, b"\x02D:01.01.24;T:2;U:12.00.00;  U \x03"),
+            Some((5, 14))
+        );
+        assert_eq!(
+            at(Form::STANDARD, b"\x02D:01.01.24;T:1;U:24.00.00;  U \x03"),
+            Some((4, 18))
+        );
+        assert_eq!(
+            at(Form::STANDARD, b"\x02D:29.02.23;T:4;U:23.59.60;#*S!\x03"),
+            Some((4, 3))
+        );
+        assert_eq!(
+            at(Form::SPA, b">900WD:24-01-01 12.00;00.000:00\r"),
+            Some((6, 29))
+        );
+        assert_eq!(at(Form::RACAL, b"XGU000229000000\n"), Some((3, 15)));
+        assert_eq!(at(Form::RACAL, b"XGU0002290000"), Some((2, 13)));
+    }
+}

@@ -1,0 +1,97 @@
+"""A record as the 29 numbers in which it crosses to the library, in the order of the struct in lindenscoop.h."""
+from typing import List, Optional, Sequence, Union
+
+from .library import OUTSIDE, crossing
+from .record import Date, DayOfYear, Fraction, Position, Record
+
+FLAGS = ("sync", "fix", "utc", "summer", "change", "leap")
+KINDS_OF_FRACTION = {3: 1, 7: 2}
+DIGITS_OF_KIND = {kind: digits for digits, kind in KINDS_OF_FRACTION.items()}
+
+
+def _whole(value: int, what: str) -> int:
+    if isinstance(value, bool) or not isinstance(value, int):
+        raise TypeError(f"{what} is a whole number, not {value!r}")
+    return value
+
+
+def _number(value: int, what: str) -> int:
+    return crossing(_whole(value, what))
+
+
+def _signed(value: int, what: str) -> List[int]:
+    return [int(_whole(value, what) < 0), crossing(abs(value))]
+
+
+def _flag(value: Optional[bool], what: str) -> int:
+    if value is not None and not isinstance(value, bool):
+        raise TypeError(f"{what} is True, False or None, not {value!r}")
+    return 0 if value is None else 1 + value
+
+
+def _date(date: Optional[Union[Date, DayOfYear]]) -> List[int]:
+    if date is None:
+        return [0, 0, 0, 0, 0]
+    if isinstance(date, Date):
+        year = _whole(date.year, "year") - 2000
+        return [1, crossing(year), _number(date.month, "month"), _number(date.day, "day"), 0]
+    if isinstance(date, DayOfYear):
+        return [2, 0, 0, 0, _number(date.day, "day of year")]
+    raise TypeError(f"a date is a Date, a DayOfYear or None, not {date!r}")
+
+
+def _fraction(fraction: Optional[Fraction]) -> List[int]:
+    if fraction is None:
+        return [0, 0]
+    if not isinstance(fraction, Fraction):
+        raise TypeError(f"a fraction is a Fraction or None, not {fraction!r}")
+    kind = KINDS_OF_FRACTION.get(_whole(fraction.digits, "digits"), OUTSIDE)
+    return [kind, _number(fraction.value, "fraction")]
+
+
+def _position(position: Optional[Position]) -> List[int]:
+    if position is None:
+        return [0, 0, 0, 0, 0, 0]
+    if not isinstance(position, Position):
+        raise TypeError(f"a position is a Position or None, not {position!r}")
+    latitude, longitude = _signed(position.latitude, "latitude"), _signed(position.longitude, "longitude")
+    return [1, *latitude, *longitude, _number(position.altitude, "altitude")]
+
+
+def encode(record: Record) -> List[int]:
+    """The numbers in which the record crosses."""
+    if not isinstance(record, Record):
+        raise TypeError(f"a Record is needed, not {record!r}")
+    numbers = [_number(record.hour, "hour"), _number(record.minute, "minute"), _number(record.second, "second")]
+    numbers += _date(record.date) + _fraction(record.fraction)
+    numbers += [0, 0] if record.channel is None else [1, _number(record.channel, "channel")]
+    numbers += [_flag(getattr(record, name), name) for name in FLAGS]
+    numbers += [0, 0, 0] if record.offset is None else [1, *_signed(record.offset, "offset")]
+    return numbers + _position(record.position) + [_flag(record.dsp, "dsp"), _flag(record.lsp, "lsp")]
+
+
+def _flag_of(number: int) -> Optional[bool]:
+    return None if number == 0 else number == 2
+
+
+def _date_of(n: Sequence[int]) -> Optional[Union[Date, DayOfYear]]:
+    if n[3] == 0:
+        return None
+    return Date(2000 + n[4], n[5], n[6]) if n[3] == 1 else DayOfYear(n[7])
+
+
+def decode(n: Sequence[int]) -> Record:
+    """The record of numbers that the library stored."""
+    return Record(
+        hour=n[0],
+        minute=n[1],
+        second=n[2],
+        date=_date_of(n),
+        fraction=Fraction(n[9], DIGITS_OF_KIND[n[8]]) if n[8] else None,
+        channel=n[11] if n[10] else None,
+        offset=(-n[20] if n[19] else n[20]) if n[18] else None,
+        position=Position(-n[23] if n[22] else n[23], -n[25] if n[24] else n[25], n[26]) if n[21] else None,
+        dsp=_flag_of(n[27]),
+        lsp=_flag_of(n[28]),
+        **{name: _flag_of(n[12 + place]) for place, name in enumerate(FLAGS)},
+    )

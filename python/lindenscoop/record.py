@@ -1,0 +1,67 @@
+"""The record of a time string. A field that was not sent is None."""
+import dataclasses
+from typing import Optional, Union
+
+
+@dataclasses.dataclass(frozen=True)
+class Date:
+    """A full date; `year` has its century, 2000 to 2099."""
+
+    year: int
+    month: int
+    day: int
+
+
+@dataclasses.dataclass(frozen=True)
+class DayOfYear:
+    """A day of year alone, 1 to 366, of a year that was not sent."""
+
+    day: int
+
+
+@dataclasses.dataclass(frozen=True)
+class Fraction:
+    """A fraction of a second as it was sent: `value` with 3 or 7 digits behind the point. str() gives 0.007."""
+
+    value: int
+    digits: int
+
+    def __str__(self) -> str:
+        return f"0.{self.value:0{self.digits}}"
+
+
+@dataclasses.dataclass(frozen=True)
+class Position:
+    """Ten-thousandths of a degree, north and east positive, and metres."""
+
+    latitude: int
+    longitude: int
+    altitude: int
+
+
+@dataclasses.dataclass(frozen=True)
+class Record:
+    """A record; `Record()` is the empty one, 00:00:00 and all else absent. `second` is 60 in a leap second."""
+
+    hour: int = 0
+    minute: int = 0
+    second: int = 0
+    date: Optional[Union[Date, DayOfYear]] = None
+    fraction: Optional[Fraction] = None
+    channel: Optional[int] = None
+    sync: Optional[bool] = None
+    #: position checked
+    fix: Optional[bool] = None
+    utc: Optional[bool] = None
+    summer: Optional[bool] = None
+    #: a change of summer time, announced in the last hour
+    change: Optional[bool] = None
+    #: a leap second, announced in the last hour
+    leap: Optional[bool] = None
+    #: minutes of local time minus UTC
+    offset: Optional[int] = None
+    position: Optional[Position] = None
+    #: a change of summer time is pending (IEEE1344)
+    dsp: Optional[bool] = None
+    #: a leap second is pending (IEEE1344)
+    lsp: Optional[bool] = None

@@ -1,0 +1,214 @@
+/* The writers of forms 1 to 7, and the tests in the order of document 01: 1, 7 (bad record), 8 (field missing), 9, 10 (no room). */
+#include "calendar.h"
+#include "plain.h"
+#include "spell.h"
+
+/* ---- Tests of a record ---- */
+
+static inline bool is_good_date(const lindenscoop_record *r)
+{
+    switch (r->date) {
+    case LINDENSCOOP_ABSENT: return true;
+    case LINDENSCOOP_FULL_DATE: return calendar_is_date(r->year, r->month, r->day);
+    case LINDENSCOOP_DAY_OF_YEAR: return 1 <= r->day_of_year && r->day_of_year <= 366;
+    default: return false;
+    }
+}
+
+static inline bool is_good_fraction(const lindenscoop_record *r)
+{
+    switch (r->fraction) {
+    case LINDENSCOOP_ABSENT: return true;
+    case LINDENSCOOP_THOUSANDTHS: return r->fraction_value <= 999;
+    case LINDENSCOOP_TEN_MILLIONTHS: return r->fraction_value <= 9999999;
+    default: return false;
+    }
+}
+
+static inline bool is_good_position(const lindenscoop_record *r)
+{
+    return r->position == LINDENSCOOP_ABSENT
+           || (r->position == LINDENSCOOP_PRESENT && r->south <= 1 && r->latitude <= 900000 && r->west <= 1 && r->longitude <= 1800000
+               && r->altitude <= 9999);
+}
+
+static inline bool are_good_flags(const lindenscoop_record *r)
+{
+    return r->sync <= LINDENSCOOP_YES && r->fix <= LINDENSCOOP_YES && r->utc <= LINDENSCOOP_YES && r->summer <= LINDENSCOOP_YES
+           && r->change <= LINDENSCOOP_YES && r->leap <= LINDENSCOOP_YES && r->dsp <= LINDENSCOOP_YES && r->lsp <= LINDENSCOOP_YES
+           && !(r->utc == LINDENSCOOP_YES && r->summer == LINDENSCOOP_YES);
+}
+
+static inline bool is_good(const lindenscoop_record *r)
+{
+    const bool channel = r->channel == LINDENSCOOP_ABSENT || (r->channel == LINDENSCOOP_PRESENT && r->channel_number <= 1);
+    const bool offset =
+        r->offset == LINDENSCOOP_ABSENT || (r->offset == LINDENSCOOP_PRESENT && r->offset_negative <= 1 && r->offset_minutes <= 840);
+    return r->hour <= 23 && r->minute <= 59 && r->second <= 60 && is_good_date(r) && is_good_fraction(r) && channel && are_good_flags(r)
+           && offset && is_good_position(r);
+}
+
+/* Whether each field that the form carries is there and of the form's kind. */
+static inline bool has_carried_fields(uint32_t form, const lindenscoop_record *r)
+{
+    const bool full_date = r->date == LINDENSCOOP_FULL_DATE;
+    switch (form) {
+    case LINDENSCOOP_STANDARD: return full_date && r->sync && r->fix && r->utc && r->summer && r->change && r->leap;
+    case LINDENSCOOP_CAPTURE: return full_date && r->fraction == LINDENSCOOP_TEN_MILLIONTHS && r->channel;
+    case LINDENSCOOP_ERLANGEN: return full_date && r->offset && r->sync && r->fix && r->summer && r->change && r->leap && r->position;
+    case LINDENSCOOP_SPA: return full_date && r->fraction == LINDENSCOOP_THOUSANDTHS;
+    case LINDENSCOOP_SYSPLEX: return r->date != LINDENSCOOP_ABSENT && r->sync;
+    default: return full_date;
+    }
+}
+
+/* ---- The forms ---- */
+
+static inline uint8_t letter_if(uint32_t flag, uint8_t yes, uint8_t no)
+{
+    return flag == LINDENSCOOP_YES ? yes : no;
+}
+
+static inline uint8_t weekday_digit(const lindenscoop_record *r)
+{
+    return (uint8_t)('0' + calendar_weekday(r->year, r->month, r->day));
+}
+
+static void write_standard(const lindenscoop_record *r, uint8_t *o)
+{
+    o = put_three(PUT_TEXT(o, "\2D:"), r->day, r->month, r->year, '.');
+    o = put_byte(PUT_TEXT(o, ";T:"), weekday_digit(r));
+    o = put_three(PUT_TEXT(o, ";U:"), r->hour, r->minute, r->second, '.');
+    o[0] = ';';
+    o[1] = letter_if(r->sync, ' ', '#');
+    o[2] = letter_if(r->fix, ' ', '*');
+    o[3] = letter_if(r->utc, 'U', letter_if(r->summer, 'S', ' '));
+    o[4] = letter_if(r->change, '!', letter_if(r->leap, 'A', ' '));
+    o[5] = ETX;
+}
+
+static void write_capture(const lindenscoop_record *r, uint8_t *o)
+{
+    o = put_byte(put_digits(PUT_TEXT(o, "CH"), r->channel_number, 1), ' ');
+    o = put_byte(put_three(o, r->day, r->month, r->year, '.'), ' ');
+    o = put_byte(put_three(o, r->hour, r->minute, r->second, ':'), '.');
+    PUT_TEXT(put_digits(o, r->fraction_value, 7), "\r\n");
+}
+
+/* A number whose leading zeros are spaces. */
+static inline uint8_t *put_padded(uint8_t *o, uint32_t n, int width)
+{
+    uint8_t *behind = put_digits(o, n, width);
+    for (; o < behind - 1 && *o == '0'; o++)
+        *o = ' ';
+    return behind;
+}
+
+static inline uint8_t *put_degrees(uint8_t *o, uint32_t degrees, uint8_t letter)
+{
+    o = put_byte(put_padded(o, degrees / 10000, 3), '.');
+    return put_byte(put_byte(put_digits(o, degrees % 10000, 4), letter), ' ');
+}
+
+static void write_erlangen(const lindenscoop_record *r, uint8_t *o)
+{
+    o = put_three(put_byte(o, STX), r->day, r->month, r->year, '.');
+    o = put_byte(PUT_TEXT(o, "; "), weekday_digit(r));
+    o = put_three(PUT_TEXT(o, "; "), r->hour, r->minute, r->second, ':');
+    o = put_offset(PUT_TEXT(o, "; "), r->offset_negative, r->offset_minutes);
+    o = PUT_TEXT(o, "; ");
+    o[0] = letter_if(r->sync, ' ', '#');
+    o[1] = letter_if(r->fix, ' ', '*');
+    o[2] = letter_if(r->summer, 'S', ' ');
+    o[3] = letter_if(r->change, '!', ' ');
+    o[4] = letter_if(r->leap, 'A', ' ');
+    o[5] = ' ';
+    o[6] = r->second == 60 ? 'L' : ' ';
+    o[7] = ';';
+    o = put_degrees(o + 8, r->latitude, r->south && r->latitude ? 'S' : 'N');
+    o = put_degrees(o, r->longitude, r->west && r->longitude ? 'W' : 'E');
+    PUT_TEXT(put_padded(o, r->altitude, 4), "m\3");
+}
+
+static void write_spa(const lindenscoop_record *r, uint8_t *out)
+{
+    uint8_t *o = put_byte(put_three(PUT_TEXT(out, ">900WD:"), r->year, r->month, r->day, '-'), ' ');
+    o = put_byte(put_digits(o, r->hour, 2), '.');
+    o = put_byte(put_digits(o, r->minute, 2), ';');
+    o = put_byte(put_digits(o, r->second, 2), '.');
+    o = put_byte(put_digits(o, r->fraction_value, 3), ':');
+    put_byte(put_hex(o, plain_spa_sum(out)), '\r');
+}
+
+static void write_racal(const lindenscoop_record *r, uint8_t *o)
+{
+    const uint32_t parts[6] = {r->year, r->month, r->day, r->hour, r->minute, r->second};
+    o = PUT_TEXT(o, "XGU");
+    for (int i = 0; i < 6; i++)
+        o = put_digits(o, parts[i], 2);
+    put_byte(o, '\r');
+}
+
+static void write_sysplex(const lindenscoop_record *r, uint8_t *o)
+{
+    const bool full_date = r->date == LINDENSCOOP_FULL_DATE;
+    o = put_digits(put_byte(o, SOH), full_date ? calendar_day_of_year(r->year, r->month, r->day) : r->day_of_year, 3);
+    o = put_three(put_byte(o, ':'), r->hour, r->minute, r->second, ':');
+    PUT_TEXT(put_byte(o, letter_if(r->sync, ' ', '?')), "\r\n");
+}
+
+static void write_computime(const lindenscoop_record *r, uint8_t *o)
+{
+    o = put_three(PUT_TEXT(o, "T:"), r->year, r->month, r->day, ':');
+    o = put_byte(PUT_TEXT(o, ":0"), weekday_digit(r));
+    o = put_three(put_byte(o, ':'), r->hour, r->minute, r->second, ':');
+    PUT_TEXT(o, "\r\n");
+}
+
+static void write_string(uint32_t form, const lindenscoop_record *r, uint8_t *out)
+{
+    switch (form) {
+    case LINDENSCOOP_STANDARD: write_standard(r, out); break;
+    case LINDENSCOOP_CAPTURE: write_capture(r, out); break;
+    case LINDENSCOOP_ERLANGEN: write_erlangen(r, out); break;
+    case LINDENSCOOP_SPA: write_spa(r, out); break;
+    case LINDENSCOOP_RACAL: write_racal(r, out); break;
+    case LINDENSCOOP_SYSPLEX: write_sysplex(r, out); break;
+    default: write_computime(r, out); break;
+    }
+}
+
+/* A block's length is known when it is written, so one that may not fit is written elsewhere first. */
+static size_t write_block(const lindenscoop_record *r, uint8_t *out, size_t room)
+{
+    uint8_t block[LINDENSCOOP_LONGEST_STRING];
+    if (room >= sizeof block)
+        return plain_block(r, out);
+    const size_t length = plain_block(r, block);
+    if (length > room)
+        return 0;
+    memcpy(out, block, length);
+    return length;
+}
+
+uint32_t plain_write(uint32_t form, const lindenscoop_record *record, uint8_t *out, size_t room, size_t *written)
+{
+    *written = 0;
+    if (!plain_is_serial(form) && form != LINDENSCOOP_BLOCK)
+        return LINDENSCOOP_UNKNOWN_FORM;
+    if (!is_good(record))
+        return LINDENSCOOP_BAD_RECORD;
+    if (form == LINDENSCOOP_BLOCK) {
+        *written = write_block(record, out, room);
+        return *written ? LINDENSCOOP_OK : LINDENSCOOP_SHORT_BUFFER;
+    }
+    if (!has_carried_fields(form, record))
+        return LINDENSCOOP_MISSING_FIELD;
+    if (form == LINDENSCOOP_STANDARD && record->change == LINDENSCOOP_YES && record->leap == LINDENSCOOP_YES)
+        return LINDENSCOOP_NOT_EXPRESSIBLE;
+    if (room < plain_shapes[form].length)
+        return LINDENSCOOP_SHORT_BUFFER;
+    write_string(form, record, out);
+    *written = plain_shapes[form].length;
+    return LINDENSCOOP_OK;
+}

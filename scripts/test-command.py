@@ -1,0 +1,587 @@
+#!/usr/bin/env python3
+"""Tries the command lindenscoop as its users would:  test-command.py PROGRAM
+
+It builds nothing. A technician listens on a pseudo-terminal in its default mode, somebody exports logs and has them written again,
+somebody asks why a log is silent, somebody tests a recorder without a clock; and disks are full, ports closed, pipes ended.
+"""
+import calendar
+import csv
+import io
+import json
+import os
+import pathlib
+import pty
+import select
+import signal
+import subprocess
+import sys
+import tempfile
+import termios
+import time
+
+ROOT = pathlib.Path(__file__).resolve().parent.parent
+NAMES = ["standard", "capture", "erlangen", "spa", "racal", "sysplex", "computime"]
+A = b"\x02D:01.01.24;T:1;U:12.00.00;  U \x03"
+BLOCK = (b"date=24-01-01\ntime=12:00:00\nfraction=-\nchannel=-\nsync=yes\nfix=yes\nutc=yes\nsummer=no\nchange=no\nleap=no\n"
+         b"offset=-\nposition=-\ndsp=-\nlsp=-\n\n")
+RACAL = b"XGU000229000000\r"
+SYSPLEX = b"\x01366:23:59:60?\r\n"
+COMPUTIME = b"T:24:01:01:01:12:00:00\r\n"
+ERLANGEN = b"\x0201.01.24; 1; 13:00:00; +00:00; #*     ;  0.0000N   0.0000E    0m\x03"
+SECONDS = 10
+
+program = ""
+counts = {"passed": 0, "failed": 0}
+started = []
+
+
+def check(name, good, told=""):
+    counts["passed" if good else "failed"] += 1
+    if not good:
+        print("failed: %s: %s" % (name, told))
+
+
+def run(*words, given=b"", **more):
+    """Status, standard output and standard error of a run."""
+    if "stdout" not in more:
+        more["stdout"] = subprocess.PIPE
+    if "stdin" not in more:
+        more["input"] = given
+    done = subprocess.run([program, *words], stderr=subprocess.PIPE, timeout=SECONDS, **more)
+    return done.returncode, done.stdout, done.stderr.decode()
+
+
+def log(form):
+    return ROOT / ("tests/csv/form-%d.log" % form)
+
+
+def wait_for(stream, wanted):
+    """Reads from a stream until it has told what is wanted, or ends."""
+    told, until = b"", time.monotonic() + SECONDS
+    while wanted not in told:
+        if not select.select([stream], [], [], max(0, until - time.monotonic()))[0]:
+            raise TimeoutError("waited for %r, and there was %r" % (wanted, told))
+        part = os.read(stream.fileno(), 4096)
+        if not part:
+            break
+        told += part
+    return told
+
+
+def start(*words, **more):
+    pipes = {"stdin": subprocess.DEVNULL, "stdout": subprocess.PIPE, "stderr": subprocess.PIPE}
+    started.append(subprocess.Popen([program, *words], **{**pipes, **more}))
+    return started[-1]
+
+
+def finish(process):
+    """Ends a process that did not end by itself; its status and standard error."""
+    try:
+        error = process.communicate(timeout=SECONDS)[1]
+    except subprocess.TimeoutExpired:
+        process.kill()
+        error = process.communicate()[1] + b" (had to be killed)"
+    return process.returncode, error.decode()
+
+
+# ---- help, usage ----
+
+def test_help():
+    status, out, _ = run("--help")
+    check("--help", status == 0 and b"listen" in out and b"simulate" in out, out)
+    for name in ["listen", "export", "why", "write", "simulate"]:
+        status, out, _ = run(name, "--help")
+        check(name + " --help", status == 0 and out.startswith(b"lindenscoop " + name.encode()), out)
+    status, out, _ = run("--version")
+    check("--version", status == 0 and out.startswith(b"lindenscoop ") and out.count(b".") == 2, out)
+
+
+def test_usage():
+    wrong = [[], ["hear"], ["listen"], ["listen", "-"], ["listen", "-", "--form", "racl"], ["listen", "-", "--form", "frame"],
+             ["listen", "-", "--form", "0"], ["listen", "-", "--form"], ["listen", "-", "--form", "1", "--baud", "fast"],
+             ["listen", "-", "--form", "1", "--framing", "9N1"], ["listen", "-", "--form", "1", "--loud"],
+             ["export", "--form", "1", "-"], ["export", "--json", "--csv", "--form", "1", "-"], ["export", "--csv", "--form", "1"],
+             ["why"], ["why", "-", "-"], ["write"], ["write", "racl"], ["write", "10"]]
+    for words in wrong:
+        status, out, error = run(*words)
+        check("usage of %s" % words, status == 2 and out == b"" and "--help" in error, (status, error))
+
+
+# ---- listen ----
+
+def test_listen_pipe():
+    for form in ["standard", "1", "Standard"]:
+        status, out, error = run("listen", "-", "--form", form, given=b"D:0" + A)
+        check("listen to a pipe for " + form, (status, out) == (0, BLOCK) and "end bytes=35 telegrams=1" in error, (status, error))
+    status, out, error = run("listen", "-", "--form", "racal", given=A)
+    check("nothing heard", (status, out) == (1, b"") and "telegrams=0" in error, (status, error))
+
+
+def test_listen_like_heard():
+    for form, name in enumerate(NAMES, 1):
+        given = (ROOT / ("tests/heard/form_%d.in" % form)).read_bytes()[2:]
+        wanted = (ROOT / ("tests/heard/form_%d.out" % form)).read_bytes()
+        _, out, error = run("listen", "-", "--form", name, given=given)
+        check("listen prints as heard: " + name, out + error.encode() == wanted, error)
+
+
+def test_listen_port():
+    """A pseudo-terminal in its default mode: ETX would be the interrupt key, CR become LF."""
+    for name, string in [("standard", A), ("racal", RACAL), ("computime", COMPUTIME)]:
+        clock, port = pty.openpty()
+        before = termios.tcgetattr(port)
+        process = start("listen", os.ttyname(port), "--form", name, "--baud", "9600")
+        said = wait_for(process.stderr, b"Ctrl-C")
+        during = termios.tcgetattr(port)
+        check("port raw with its speed", during[3] == 0 and during[0] == 0 and during[4] == termios.B9600, (said, during[:6]))
+        began = time.monotonic()
+        os.write(clock, b"noise" + string)
+        first = wait_for(process.stdout, b"\n\n")
+        check("heard at once: " + name, first.count(b"time=") == 1 and time.monotonic() - began < 5, first)
+        os.write(clock, string[:9])
+        os.write(clock, string[9:])
+        check("heard in parts: " + name, wait_for(process.stdout, b"\n\n") == first, "")
+        process.send_signal(signal.SIGINT)
+        status, error = finish(process)
+        check("Ctrl-C: " + name, status == 0 and "end bytes=%d telegrams=2" % (5 + 2 * len(string)) in error, (status, error))
+        check("port put back: " + name, termios.tcgetattr(port) == before, "")
+        os.close(clock)
+        os.close(port)
+
+
+def test_export_port():
+    clock, port = pty.openpty()
+    process = start("export", "--csv", "--form", "racal", os.ttyname(port))
+    wait_for(process.stdout, b"lsp\n")
+    until = time.monotonic() + SECONDS
+    while termios.tcgetattr(port)[3] != 0 and time.monotonic() < until:
+        time.sleep(0.01)
+    os.write(clock, RACAL)
+    row = wait_for(process.stdout, b"\n")
+    process.send_signal(signal.SIGINT)
+    status, error = finish(process)
+    check("export from a port", status == 0 and row.startswith(b"0,2000-02-29") and "telegrams=1" in error, (status, row, error))
+    os.close(clock)
+    os.close(port)
+
+
+def test_listen_port_fails():
+    clock, port = pty.openpty()
+    process = start("listen", os.ttyname(port), "--form", "1")
+    wait_for(process.stderr, b"Ctrl-C")
+    os.write(clock, A)
+    wait_for(process.stdout, b"\n\n")
+    os.close(port)
+    os.close(clock)
+    status, error = finish(process)
+    check("closed port", status == 3 and "closed or unplugged" in error and "telegrams=1" in error, (status, error))
+    clock, port = pty.openpty()
+    before = termios.tcgetattr(port)
+    status, _, error = run("listen", os.ttyname(port), "--form", "1", "--framing", "7E1")
+    check("framing that the port does not take", status == 3 and "7E1" in error, (status, error))
+    check("port put back after that", termios.tcgetattr(port) == before, "")
+    process = start("listen", os.ttyname(port), "--form", "1")
+    wait_for(process.stderr, b"Ctrl-C")
+    process.send_signal(signal.SIGTERM)
+    status, error = finish(process)
+    check("nothing heard on a port", status == 1 and "bytes=0 telegrams=0" in error, (status, error))
+    os.close(clock)
+    os.close(port)
+
+
+def test_listen_reader_ends():
+    """Whoever reads the output goes away while the clock is silent."""
+    clock, port = pty.openpty()
+    process = start("listen", os.ttyname(port), "--form", "1")
+    wait_for(process.stderr, b"Ctrl-C")
+    process.stdout.close()
+    process.stdout = None
+    status, error = finish(process)
+    check("reader of the output ends", status == 3 and "ended" in error, (status, error))
+    os.close(clock)
+    os.close(port)
+
+
+def test_listen_record(folder):
+    kept = folder / "kept.log"
+    given = b"noise" + A + b"\r\n\x00" + A[:5]
+    status, out, error = run("listen", "-", "--form", "1", "--record", str(kept), given=given)
+    check("record", (status, out) == (0, BLOCK) and kept.read_bytes() == given, (status, error))
+    status, _, error = run("listen", "-", "--form", "1", "--record", str(kept), given=A)
+    check("a recording is not overwritten", status == 2 and kept.read_bytes() == given, (status, error))
+    status, _, error = run("listen", "-", "--form", "1", "--record", str(folder / "none/kept"), given=A)
+    check("a recording that cannot be made", status == 3 and "none/kept" in error, (status, error))
+
+
+def writing_end(pipe):
+    """Opens a named pipe, once somebody reads it."""
+    until = time.monotonic() + SECONDS
+    while True:
+        try:
+            return os.open(pipe, os.O_WRONLY | os.O_NONBLOCK)
+        except OSError:
+            if time.monotonic() > until:
+                raise
+            time.sleep(0.01)
+
+
+def test_listen_named_pipe(folder):
+    """A named pipe is waited for, and Ctrl-C ends the waiting."""
+    pipe = folder / "listened"
+    os.mkfifo(pipe)
+    process = start("listen", str(pipe), "--form", "racal")
+    clock = writing_end(pipe)
+    os.write(clock, RACAL)
+    os.close(clock)
+    status, error = finish(process)
+    check("named pipe", status == 0 and "end bytes=16 telegrams=1" in error, (status, error))
+    process = start("listen", str(pipe), "--form", "racal")
+    time.sleep(0.2)
+    process.send_signal(signal.SIGINT)
+    status, error = finish(process)
+    check("Ctrl-C at a pipe without a writer", status == 1 and "bytes=0" in error, (status, error))
+
+
+# ---- on a terminal ----
+
+def test_terminal(folder):
+    """Progress of a long file and a red error on a terminal; the file stopped before its end is a failure."""
+    long = folder / "long.log"
+    with open(long, "wb") as file:
+        file.truncate(1 << 36)
+    seen, terminal = pty.openpty()
+    process = start("export", "--csv", "--form", "1", str(long), stdout=subprocess.DEVNULL, stderr=terminal, env={**os.environ, "TERM": "xterm"})
+    with os.fdopen(seen, "rb", buffering=0) as screen:
+        told = wait_for(screen, b"%, 0 strings")
+        process.send_signal(signal.SIGINT)
+        told += wait_for(screen, b"not whole")
+    os.close(terminal)
+    check("progress", b"long.log: " in told and b" %, 0 strings" in told, told)
+    check("Ctrl-C in a file", process.wait(SECONDS) == 3 and b"stopped before the end" in told, (process.returncode, told))
+    check("red on a terminal", b"\x1b[31mlindenscoop:" in told, told)
+    long.unlink()
+
+
+# ---- export ----
+
+def as_cell(key, value):
+    """The CSV cell of a JSON value."""
+    if value is None:
+        return ""
+    if isinstance(value, bool):
+        return "yes" if value else "no"
+    return "%.4f" % value if key in ("latitude", "longitude") else str(value)
+
+
+def test_export():
+    for form, name in enumerate(NAMES, 1):
+        wanted = log(form).with_suffix(".csv").read_text()
+        status, out, _ = run("export", "--csv", "--form", name, str(log(form)))
+        rows = list(csv.DictReader(io.StringIO(out.decode())))
+        without = "".join(line.split(",", 1)[1] for line in out.decode().splitlines(True))
+        check("CSV of " + name, status == 0 and without == wanted, out[:200])
+        status, out, _ = run("export", "--json", "--form", str(form), "-", given=log(form).read_bytes())
+        lines = [json.loads(line) for line in out.splitlines()]
+        cells = [{key: as_cell(key, value) for key, value in line.items()} for line in lines]
+        check("JSON as CSV of " + name, status == 0 and lines and cells == rows, out[:200])
+
+
+def test_export_absent():
+    status, out, _ = run("export", "--json", "--form", "racal", "-", given=b".." + RACAL)
+    line = json.loads(out)
+    sent = {"place": 2, "date": "2000-02-29", "time": "00:00:00"}
+    check("absent is null", len(line) == 18 and all(line[key] == sent.get(key) for key in line), out)
+    _, out, _ = run("export", "--csv", "--form", "racal", "-", given=b".." + RACAL)
+    check("absent is an empty cell", out.splitlines()[1] == b"2,2000-02-29,,00:00:00" + b"," * 14, out)
+    line = json.loads(run("export", "--json", "--form", "3", "-", given=ERLANGEN)[1])
+    zero = [line[key] for key in ("offset", "latitude", "longitude", "altitude", "utc")]
+    check("zero that was sent", zero == ["+00:00", 0, 0, 0, None], line)
+
+
+def test_export_pieces():
+    """Strings over the ends of pieces, each found once and at its place."""
+    count = 30000
+    given = b"".join(b"." * (i % 5) + RACAL for i in range(count))
+    places, at = [], 0
+    for i in range(count):
+        places.append(at + i % 5)
+        at += i % 5 + len(RACAL)
+    _, out, _ = run("export", "--csv", "--form", "racal", "-", given=given)
+    check("places over pieces", [int(line.split(b",")[0]) for line in out.splitlines()[1:]] == places, len(out))
+    process = start("export", "--csv", "--form", "racal", "-", stdin=subprocess.PIPE)
+    process.stdin.write(RACAL)
+    process.stdin.flush()
+    check("flushed at each read", b"2000-02-29" in wait_for(process.stdout, b"2000-02-29"), "")
+    for byte in RACAL:
+        process.stdin.write(bytes([byte]))
+        process.stdin.flush()
+    process.stdin.close()
+    out = process.stdout.read()
+    check("byte by byte", out.startswith(b"16,2000-02-29") and out.count(b"\n") == 1 and process.wait(SECONDS) == 0, out)
+    process.stdout.close()
+
+
+def test_export_files(folder):
+    one, two = folder / "a,\"b\".log", folder / "two.log"
+    one.write_bytes(RACAL[:9])
+    two.write_bytes(RACAL[9:] + RACAL)
+    _, out, _ = run("export", "--csv", "--form", "racal", str(one), str(two))
+    rows = list(csv.DictReader(io.StringIO(out.decode())))
+    check("files apart", [(row["file"], row["place"]) for row in rows] == [(str(two), "7")], out)
+    one.write_bytes(RACAL)
+    _, out, _ = run("export", "--csv", "--form", "racal", str(one), str(two))
+    rows = list(csv.DictReader(io.StringIO(out.decode())))
+    check("names in CSV", [row["file"] for row in rows] == [str(one), str(two)], out)
+    _, out, _ = run("export", "--json", "--form", "racal", str(one), str(two))
+    check("names in JSON", [json.loads(line)["file"] for line in out.splitlines()] == [str(one), str(two)], out)
+    status, out, error = run("export", "--json", "--form", "racal", str(folder / "none"), str(two))
+    check("a file that is not there", status == 3 and out.count(b"\n") == 1 and "none" in error, (status, error))
+
+
+# ---- failures ----
+
+def test_failures(folder):
+    given = folder / "a.log"
+    given.write_bytes(A * 3)
+    commands = {"listen": ["listen", "--form", "1"], "export": ["export", "--csv", "--form", "1"], "json": ["export", "--json", "--form", "1"],
+                "why": ["why"]}
+    for name, words in commands.items():
+        with open("/dev/full", "wb") as full:
+            status, _, error = run(*words, str(given), stdout=full)
+        check("full disk: " + name, status == 3 and "space" in error, (status, error))
+        status, _, error = run(*words, str(folder))
+        check("a directory: " + name, status == 3 and "directory" in error, (status, error))
+        status, _, error = run(*words, str(folder / "nothing"))
+        check("no such file: " + name, status == 3 and "nothing" in error, (status, error))
+        read, write = os.pipe()
+        os.close(read)
+        status, _, error = run(*words, str(given), stdout=write)
+        os.close(write)
+        check("ended pipe: " + name, status == 3 and "ended" in error, (status, error))
+        for closed in ["1>&-", "0<&-"]:
+            done = subprocess.run(["sh", "-c", '"$@" - ' + closed, "sh", program, *words], capture_output=True, timeout=SECONDS, input=b"")
+            check("closed %s: %s" % (closed, name), done.returncode == 3 and b"closed" in done.stderr, done)
+    line = b'{"date":"2024-02-29","time":"12:00:00"}'
+    with open("/dev/full", "wb") as full:
+        status, _, error = run("write", "racal", given=line, stdout=full)
+        check("full disk: write", status == 3 and "space" in error, (status, error))
+        check("full disk: write, refused", run("write", "standard", given=line, stdout=full)[0] == 1, "")
+    status, _, error = run("write", "racal", str(folder))
+    check("a directory: write", status == 3 and "directory" in error, (status, error))
+    with open("/dev/full", "wb") as full:
+        check("full disk: --help", run("--help", stdout=full)[0] == 3, "")
+    check("no colour in a pipe", b"\x1b" not in b"".join([run("why", "-", given=A)[1], run("hear")[2].encode()]), "")
+
+
+# ---- why ----
+
+def why(name, given, *wanted, status=1):
+    answer, out, error = run("why", "-", given=given)
+    missing = [text for text in wanted if text not in out.decode()]
+    check("why: " + name, answer == status and not missing, (answer, missing, out.decode(), error))
+
+
+def even_parity(given):
+    return bytes(byte | (bin(byte).count("1") % 2) << 7 for byte in given)
+
+
+def test_why():
+    why("heard", A * 2, "1 standard   strings heard: 2\n", "5 racal      strings heard: 0\n", status=0)
+    why("empty file", b"", "the file is empty", "7 computime  strings heard: 0")
+    why("sum", b">900WD:24-01-01 12.00;00.000:00\r", "1 near miss", "refused with 6: the SPA sum", "at byte 29, its byte 29: in the checksum")
+    why("weekday", b".." + A.replace(b"T:1", b"T:2"), "refused with 5: two parts disagree", "begins at byte 2 and fails at byte 16", "the weekday")
+    why("weekday of erlangen", ERLANGEN.replace(b"; 1;", b"; 2;"), "refused with 5", "the weekday, which is \"2\"")
+    why("second 60 of erlangen", ERLANGEN.replace(b"00:00; +", b"00:60; +"), "refused with 5", "the letter of second 60")
+    why("no such date", A.replace(b"01.01.24", b"30.02.24"), "refused with 4", "the day, which is \"30\"")
+    why("hour", RACAL.replace(b"29000000", b"29240000"), "refused with 4", "the hour, which is \"24\"")
+    why("wrong byte", A.replace(b"12.00", b"12:00"), "refused with 3", "fails at byte 20", "':' instead of '.'")
+    why("cut", A * 2 + A[:9], "refused with 2", "begins at byte 64 and fails at byte 73", status=0)
+    why("CR removed", (SYSPLEX * 3).replace(b"\r", b""), "no CR left", "not raw", "strings of sysplex heard: 3")
+    why("CR became LF", (RACAL * 3).replace(b"\r", b"\n"), "LF instead of CR", "not raw", "strings of racal heard: 3")
+    why("CR LF became LF LF", (COMPUTIME * 3).replace(b"\r", b"\n"), "not raw", "strings of computime heard: 3")
+    why("CR dropped", (RACAL * 3).replace(b"\r", b""), "CR was left out", "strings of racal heard: 3")
+    why("parity", even_parity(A * 3), "parity", "7E1", "strings of standard heard: 3")
+    why("CRLF conversion", (COMPUTIME * 3).replace(b"\n", b"\r\n"), "text mode", "strings of computime heard: 3")
+    why("STX and ETX dropped", (A * 3).replace(b"\x02", b"").replace(b"\x03", b"\n"), "STX and ETX", "strings of standard heard: 3")
+    why("caret letters", (A * 3).replace(b"\x02", b"^B").replace(b"\x03", b"^C"), "spelled out", "strings of standard heard: 3")
+    why("wide", (A * 3).decode().encode("utf-16-le"), "UTF-16", "strings of standard heard: 3")
+    why("wrong speed", bytes(i * 89 % 251 for i in range(900)), "the speed or the framing")
+    why("blocks", BLOCK * 2, "the file holds blocks")
+    why("a frame", run("simulate", "frame", "--count", "1", "--interval", "0")[1], "IEEE1344")
+    why("other text", b"hello\r\n" * 20, "of none of these forms")
+
+
+def test_why_dumps():
+    given = COMPUTIME * 5
+    lines = [given[at:at + 16] for at in range(0, len(given), 16)]
+    text = lambda part: "".join(chr(byte) if 32 <= byte < 127 else "." for byte in part)
+    dumps = {
+        "plain": given.hex(),
+        "spaced": given.hex(" "),
+        "xxd": "\n".join("%08x: %-39s  %s" % (16 * at, part.hex(" ", -2), text(part)) for at, part in enumerate(lines)),
+        "hexdump -C": "\n".join("%08x  %s  %s  |%s|" % (16 * at, part[:8].hex(" "), part[8:].hex(" "), text(part)) for at, part in enumerate(lines)),
+        "od": "\n".join("%07o %s" % (16 * at, part.hex(" ")) for at, part in enumerate(lines)),
+        "hexdump": "\n".join("%07x %s" % (16 * at, " ".join("%02x%02x" % (part[i + 1], part[i]) for i in range(0, len(part), 2)))
+                             for at, part in enumerate(lines)),
+    }
+    for name, dump in dumps.items():
+        why("dump of " + name, dump.encode() + b"\n", "hex dump", "strings of computime heard: 5")
+
+
+# ---- write ----
+
+def test_write_back():
+    for form, name in enumerate(NAMES, 1):
+        given = log(form).read_bytes()
+        lines = run("export", "--json", "--form", name, "-", given=given)[1]
+        places = [json.loads(line)["place"] for line in lines.splitlines()]
+        length = [32, 31, 66, 32, 16, 16, 24][form - 1]
+        wanted = b"".join(given[place:place + length] for place in places)
+        status, out, error = run("write", name, given=lines)
+        check("written again: " + name, status == 0 and places and out == wanted, (status, error, out[:80]))
+        again = "".join(json.dumps(json.loads(line)) + "\r\n" for line in lines.splitlines()).encode()
+        status, out, error = run("write", str(form), "-", given=again)
+        check("written again after another program: " + name, status == 0 and out == wanted, (status, error, out[:80]))
+
+
+def test_write_other_forms():
+    line = run("export", "--json", "--form", "1", "-", given=A)[1]
+    check("write a block", run("write", "block", given=line)[:2] == (0, BLOCK[:-1]), "")
+    whole = b'{"date":"2024-01-01","time":"00:00:00","sync":true,"summer":false,"offset":"+00:00","dsp":false,"lsp":false}'
+    status, out, error = run("write", "frame", given=whole)
+    ones = [at for at, element in enumerate(out) if element == 1]
+    check("write a frame", status == 0 and len(out) == 100 and ones == [30, 52, 56, 75], (status, ones, error))
+    status, out, error = run("write", "sysplex", given=b'{"date":"2023-12-31","time":"23:59:59","sync":true}')
+    check("day of year of a date", out == b"\x01365:23:59:59 \r\n", (status, out, error))
+
+
+def test_write_refused():
+    good = b'{"date":"2024-02-29","time":"12:00:00"}'
+    wrong = {
+        b"time": b"column 1", b'{"date":"2024-02-29"}': b"\"time\" is missing", b'{"date":"2024-02-29","time":"12:00"}': b"\"time\" must be",
+        b'{"date":"2023-02-29","time":"12:00:00"}': b"refused with 7", b'{"time":"12:00:00"}': b"refused with 8",
+        b'{"date":"1999-01-01","time":"12:00:00"}': b"2000 to 2099", b'{"date":20240229,"time":"12:00:00"}': b"must be a string",
+        b'{"date":"2024-02-29","time":"12:00:00","snyc":true}': b"no field \"snyc\"", b'{"time":"12:00:00","time":"12:00:01"}': b"twice",
+        b'{"time":"12:00:00","date":"2024-02-29","day_of_year":60}': b"one of them must be null", good + b"}": b"nothing more",
+        b'{"time":"12:00:00","latitude":1.5}': b"together", b'{"time":"12:00:00","longitude":1.5,"altitude":1}': b"together",
+        b'{"time":"12:00:00","fraction":"0.12"}': b"3 or 7 digits",
+        b'{"time":"12:00:00","offset":"01:00"}': b"offset", b'{"time":"12:00:00","sync":1}': b"true, false or null",
+        b'{"time":"12:00:00","channel":-1}': b"whole number", b'{"time":"12:00:00","latitude":1.23456,"longitude":1,"altitude":1}': b"four digits",
+        b'{"time":"12:00:00","x":"\xff"}': b"UTF-8", b'{"time":"12:00:00","position":[1]}': b"expected a string",
+    }
+    for line, why_not in wrong.items():
+        status, out, error = run("write", "racal", given=good + b"\n" + line + b"\n" + good)
+        told = "line 2: " in error and why_not.decode() in error and "refused: 1" in error
+        check("refused: %s" % line, status == 1 and out == b"XGU240229120000\r" * 2 and told, (status, out, error))
+    status, out, error = run("write", "racal", given=b"\n")
+    check("no line", (status, out) == (1, b"") and "no line" in error, (status, error))
+
+
+# ---- simulate ----
+
+def test_simulate_pipe():
+    for name in NAMES:
+        clock = start("simulate", name, "--count", "40", "--interval", "0", "--damage", "4")
+        status, out, error = run("export", "--json", "--form", name, "-", stdin=clock.stdout)
+        clock.stdout.close()
+        told = clock.stderr.read().decode()
+        clock.stderr.close()
+        good = status == 0 and out.count(b"\n") == 30 and clock.wait(SECONDS) == 0
+        check("simulate into a pipe: " + name, good and "end sent=40 damaged=10 lost=0" in told, (status, out.count(b"\n"), error, told))
+
+
+def test_simulate_time():
+    """One string a second, with the running time in it."""
+    began = time.time()
+    status, out, error = run("simulate", "standard", "--count", "2")
+    ended = time.time()
+    lines = [json.loads(line) for line in run("export", "--json", "--form", "1", "-", given=out)[1].splitlines()]
+    told = [calendar.timegm(time.strptime(line["date"] + line["time"], "%Y-%m-%d%H:%M:%S")) for line in lines]
+    good = len(told) == 2 and int(began) < told[0] < told[1] <= ended
+    check("simulate the running time", status == 0 and good, (told, began, ended, error))
+    out = run("simulate", "racal", "--count", "16", "--interval", "0", "--damage", "4")[1]
+    check("several kinds of damage", len(out) != 256 and out.count(b"XGU") >= 12, out)
+    began = time.monotonic()
+    run("simulate", "racal", "--count", "4", "--interval", "0.1")
+    check("interval", time.monotonic() - began >= 0.3, time.monotonic() - began)
+    for name, length in [("frame", 100), ("block", None)]:
+        status, out, _ = run("simulate", name, "--count", "1", "--interval", "0")
+        check("simulate " + name, status == 0 and len(out) == (length or len(out)) and len(out) >= 100, (status, out))
+
+
+def test_simulate_pty():
+    clock = start("simulate", "standard", "--pty", "--interval", "0.05", "--damage", "3")
+    name = wait_for(clock.stdout, b"\n").decode().strip()
+    recorder = start("listen", name, "--form", "standard")
+    heard = wait_for(recorder.stdout, b"\n\n")
+    while heard.count(b"\n\n") < 4 and recorder.poll() is None:
+        heard += wait_for(recorder.stdout, b"\n\n")
+    recorder.send_signal(signal.SIGINT)
+    status, error = finish(recorder)
+    check("listen to a simulated clock", status == 0 and heard.count(b"sync=yes") >= 4, (status, error, heard))
+    clock.send_signal(signal.SIGINT)
+    status, error = finish(clock)
+    check("Ctrl-C ends a simulated clock", status == 0 and "end sent=" in error and "damaged=0" not in error, (status, error))
+
+
+def test_simulate_to(folder):
+    path = folder / "clock.log"
+    status, _, error = run("simulate", "racal", "--to", str(path), "--count", "3", "--interval", "0")
+    check("simulate into a file", status == 0 and len(path.read_bytes()) == 48, (status, error))
+    fast = ["simulate", "racal", "--interval", "0"]
+    status, _, error = run(*fast, "--to", "/dev/full")
+    check("full disk: simulate", status == 3 and "space" in error, (status, error))
+    status, _, error = run(*fast, "--to", str(folder))
+    check("a directory: simulate", status == 3 and "directory" in error, (status, error))
+    pipe = folder / "pipe"
+    os.mkfifo(pipe)
+    reader = os.open(pipe, os.O_RDONLY | os.O_NONBLOCK)
+    clock = start("simulate", "racal", "--to", str(pipe), "--interval", "3600")
+    select.select([reader], [], [], SECONDS)
+    os.close(reader)
+    status, error = finish(clock)
+    check("ended pipe: simulate", status == 3 and "ended" in error, (status, error))
+    for words in [["simulate"], ["simulate", "racal", "--pty", "--to", "x"], ["simulate", "racal", "--damage", "0"],
+                  ["simulate", "racal", "--count", "-1"], ["simulate", "racal", "--interval", "-1"], ["simulate", "racal", "x"]]:
+        status, out, error = run(*words)
+        check("usage of %s" % words, status == 2 and out == b"" and "--help" in error, (status, error))
+
+
+def test_simulate_port():
+    """A serial port as the target is set raw, so that no LF becomes CR LF."""
+    recorder, port = pty.openpty()
+    status, _, error = run("simulate", "computime", "--to", os.ttyname(port), "--count", "2", "--interval", "0")
+    out = os.read(recorder, 4096) if select.select([recorder], [], [], SECONDS)[0] else b""
+    check("simulate onto a port", status == 0 and len(out) == 48 and out.count(b"\r\n") == 2, (status, out, error))
+    os.close(recorder)
+    os.close(port)
+
+
+def attempt(name, test, folder):
+    """Runs a test; what it leaves running is ended."""
+    try:
+        test(folder) if test.__code__.co_argcount else test()
+    except Exception as error:
+        check(name, False, repr(error))
+    for process in started:
+        if process.poll() is None:
+            process.kill()
+            process.wait()
+    started.clear()
+
+
+def main():
+    global program
+    if len(sys.argv) != 2:
+        sys.exit("usage: test-command.py PROGRAM")
+    program = str(pathlib.Path(sys.argv[1]).resolve())
+    with tempfile.TemporaryDirectory() as folder:
+        for name, test in list(globals().items()):
+            if name.startswith("test_"):
+                attempt(name, test, pathlib.Path(folder))
+    print("%(passed)d passed, %(failed)d failed" % counts)
+    sys.exit(1 if counts["failed"] else 0)
+
+
+if __name__ == "__main__":
+    main()

@@ -1,0 +1,434 @@
+#!/usr/bin/env python3
+"""The Python module over the shared library, which is made afresh for it: vectors, streams, fields, refusals, forms, and how it is found.
+
+    scripts/test-python.py
+
+Needs a C compiler and `rt staticlib lindenscoop`. Its last line is 'N passed, M failed'.
+"""
+import dataclasses
+import doctest
+import importlib
+import importlib.util
+import io
+import os
+import pathlib
+import pickle
+import re
+import shutil
+import signal
+import subprocess
+import sys
+import tempfile
+import traceback
+
+ROOT = pathlib.Path(__file__).resolve().parent.parent
+FLAGS = ("sync", "fix", "utc", "summer", "change", "leap", "dsp", "lsp")
+counts = {True: 0, False: 0}
+
+
+def check(holds, what):
+    counts[bool(holds)] += 1
+    if not holds:
+        print(f"test-python: {what}")
+
+
+def same(found, expected, what):
+    check(found == expected, f"{what}: {found!r}, expected {expected!r}")
+
+
+def number_of(function, *words):
+    """The number with which a call is refused, 0 where it is not."""
+    try:
+        function(*words)
+    except ls.Refused as refused:
+        return refused.number
+    return 0
+
+
+def raises(kind, function, *words):
+    try:
+        function(*words)
+    except kind as error:
+        return str(error) or kind.__name__
+    except Exception as error:  # another one is what the test is to show
+        return f"{type(error).__name__}: {error}"
+    return ""
+
+
+# ---- vectors/ ----
+
+
+def unescaped(text):
+    return re.sub(rb"\\x([0-9A-Fa-f]{2})", lambda match: bytes([int(match[1], 16)]), text.encode())
+
+
+def parsed(text, parse):
+    return None if text == "-" else parse(text)
+
+
+def parsed_date(text):
+    kind, *numbers = text.split(":")
+    if kind == "day":
+        return ls.DayOfYear(int(numbers[0]))
+    return ls.Date(2000 + int(numbers[0]), int(numbers[1]), int(numbers[2]))
+
+
+def parsed_fraction(text):
+    digits, value = text.split(":")
+    return ls.Fraction(int(value), int(digits))
+
+
+def parsed_record(text):
+    date, time, fraction, channel, *rest = text.split(",")
+    hour, minute, second = map(int, time.split(":"))
+    flags = dict(zip(FLAGS, rest[:6] + rest[8:]))
+    return ls.Record(
+        hour, minute, second, parsed(date, parsed_date), parsed(fraction, parsed_fraction), parsed(channel, int),
+        offset=parsed(rest[6], int),
+        position=parsed(rest[7], lambda text: ls.Position(*map(int, text.split(":")))),
+        **{name: parsed(text, "1".__eq__) for name, text in flags.items()},
+    )
+
+
+def answered(form, data):
+    """Number and bytes of a line: the block of what is read, or what is written."""
+    try:
+        if not form.startswith("w"):
+            return 0, ls.write("block", ls.read(int(form), unescaped(data)))
+        number, room = form[1:].split(":")
+        buffer = bytearray(b"\xa5" * int(room))
+        before = bytes(buffer)
+        try:
+            written = ls.write_into(int(number), parsed_record(data), buffer)
+        except ls.Refused:
+            check(buffer == before, f"{form} {data}: a refused write changed the buffer")
+            raise
+        check(buffer[written:] == before[written:], f"{form} {data}: bytes behind the string changed")
+        return 0, bytes(buffer[:written])
+    except ls.Refused as refused:
+        return refused.number, b"-"
+
+
+def test_vectors():
+    lines = 0
+    for path in sorted((ROOT / "vectors").glob("*.txt")):
+        for line in path.read_text(encoding="utf-8").splitlines():
+            if line and not line.startswith("#"):
+                form, data, number, expected, _ = line.split("\t")
+                same(answered(form, data), (int(number), unescaped(expected)), f"{path.name}: {form} {data}")
+                lines += 1
+    check(lines > 50, f"only {lines} vectors")
+
+
+# ---- Streams ----
+
+
+class Dripping:
+    """A stream without read1 that hands out a few bytes at a time."""
+
+    def __init__(self, data, size):
+        self.stream, self.size = io.BytesIO(data), size
+
+    def read(self, most):
+        return self.stream.read(min(most, self.size))
+
+
+def blocks(strings, length):
+    """As the program heard prints them."""
+    strings = list(strings)
+    text = b"".join(ls.write("block", found.record) + b"\n" for found in strings)
+    return text + b"end bytes=%d telegrams=%d\n" % (length, len(strings))
+
+
+def streams():
+    """Form, stream and what heard prints, for each stored run that is not refused."""
+    for path in sorted((ROOT / "tests/heard").glob("*.in")):
+        expected = path.with_suffix(".out").read_bytes()
+        if not expected.startswith(b"refused"):
+            data = path.read_bytes()
+            yield int(data[:1]), data[2:], expected
+    yield 1, (ROOT / "samples/standard.log").read_bytes(), (ROOT / "tests/heard/sample.out").read_bytes()
+
+
+def test_streams():
+    for form, data, expected in streams():
+        strings = list(ls.heard(form, data))
+        for stream in (io.BytesIO(data), Dripping(data, 1), Dripping(data, 7), bytearray(data), memoryview(data)):
+            same(list(ls.heard(form, stream)), strings, f"form {form}, {stream!r}")
+        same(blocks(strings, len(data)), expected, f"form {form}")
+        for place, record in strings:
+            string = ls.write(form, record)
+            same(data[place : place + len(string)], string, f"form {form}: the string at {place}")
+        same(repeated_search(form, data), strings, f"form {form}: repeated search")
+        listener = ls.Listener(form)
+        same([record for record in map(listener.feed, data) if record], [found.record for found in strings], f"form {form}: byte by byte")
+        same(listener.fed, len(data), f"form {form}: bytes fed")
+
+
+def repeated_search(form, data):
+    strings, start = [], 0
+    while True:
+        try:
+            strings.append(ls.search(form, data, start))
+        except ls.Refused as refused:
+            same(refused.number, 12, f"form {form}: search from {start}")
+            return strings
+        start = strings[-1].place + 1
+
+
+def test_a_pipe_is_heard_at_once():
+    """The pipe stays open: waiting for more than the string would never end."""
+    def late(*_):
+        raise TimeoutError("a string in an open pipe was not handed out")
+    here, there = os.pipe()
+    signal.signal(signal.SIGALRM, late)
+    signal.alarm(10)
+    with open(here, "rb") as stream, open(there, "wb", buffering=0) as source:
+        source.write(b"..XGU000229000000\r")
+        same(next(ls.heard("racal", stream)).place, 2, "a pipe")
+    signal.alarm(0)
+
+
+def test_streams_that_fail():
+    class Failing(Dripping):
+        def read(self, most):
+            return super().read(most) or self.fail()
+
+        def fail(self):
+            raise OSError("the cable was pulled")
+
+    class NotYet(Dripping):
+        def read(self, most):
+            return super().read(most) or None
+
+    strings = ls.heard("racal", Failing(b"XGU000229000000\r", 5))
+    same(next(strings).place, 0, "before the failure")
+    same(raises(OSError, next, strings), "the cable was pulled", "a failing stream")
+    check("waits" in raises(BlockingIOError, list, ls.heard("racal", NotYet(b"", 5))), "a stream that does not wait")
+    check("'rb'" in raises(TypeError, list, ls.heard("racal", io.StringIO("XGU"))), "a text stream")
+    check("'rb'" in raises(TypeError, ls.heard, "racal", "file.log"), "a path for a stream")
+    check(raises(TypeError, ls.heard, "racal", 5).startswith("memoryview"), "a number for a stream")
+
+
+# ---- Fields ----
+
+EMPTY = {"date": "-", "time": "00:00:00", "fraction": "-", "channel": "-", **{name: "-" for name in FLAGS[:6]}, "offset": "-", "position": "-", "dsp": "-", "lsp": "-"}
+
+
+def single_fields():
+    """Records with one field each, and its line in the block."""
+    for name in FLAGS:
+        yield {name: True}, name, "yes"
+        yield {name: False}, name, "no"
+    yield {}, "time", "00:00:00"
+    yield {"hour": 23, "minute": 59, "second": 60}, "time", "23:59:60"
+    yield {"date": ls.Date(2024, 2, 29)}, "date", "24-02-29"
+    yield {"date": ls.Date(2000, 1, 1)}, "date", "00-01-01"
+    yield {"date": ls.Date(2099, 12, 31)}, "date", "99-12-31"
+    yield {"date": ls.DayOfYear(366)}, "date", "day-366"
+    yield {"fraction": ls.Fraction(7, 3)}, "fraction", "007"
+    yield {"fraction": ls.Fraction(7, 7)}, "fraction", "0000007"
+    yield {"channel": 0}, "channel", "0"
+    yield {"channel": 1}, "channel", "1"
+    for minutes, text in ((0, "+00:00"), (-210, "-03:30"), (840, "+14:00"), (-840, "-14:00")):
+        yield {"offset": minutes}, "offset", text
+    yield {"position": ls.Position(-473500, 80625, 431)}, "position", "-047.3500 +008.0625 0431"
+    yield {"position": ls.Position(1, -1800000, 9999)}, "position", "+000.0001 -180.0000 9999"
+
+
+def test_each_field_crosses_alone():
+    for fields, key, text in single_fields():
+        record = ls.Record(**fields)
+        block = "".join(f"{name}={value}\n" for name, value in {**EMPTY, key: text}.items()).encode()
+        same(ls.write("block", record), block, f"{fields} written")
+        same(ls.read("block", block), record, f"{fields} read")
+        for field in dataclasses.fields(ls.Record):
+            if field.name not in fields and field.name not in ("hour", "minute", "second"):
+                check(getattr(ls.read("block", block), field.name) is None, f"{fields}: {field.name} is not None")
+
+
+def bad_records():
+    """Values outside their range, and those that would be inside it if cut to 32 bits."""
+    for wide in (-1, 2**32, 2**32 + 1, 2**64, -(2**32)):
+        yield {"hour": wide}
+        yield {"second": wide}
+        yield {"channel": wide}
+        yield {"date": ls.DayOfYear(wide)}
+        yield {"date": ls.Date(2024, wide, 1)}
+        yield {"date": ls.Date(2024, 1, wide)}
+        yield {"date": ls.Date(2000 + wide, 1, 1)}
+        yield {"fraction": ls.Fraction(wide, 3)}
+        yield {"position": ls.Position(0, 0, wide)}
+    for wide in (841, -841, 2**31, 2**32, -(2**32), 2**32 + 60, -(2**31)):
+        yield {"offset": wide}
+        yield {"position": ls.Position(wide * 2**32, 0, 0)}
+        yield {"position": ls.Position(0, wide * 2**32, 0)}
+    yield {"date": ls.Date(24, 1, 1)}
+    yield {"date": ls.Date(2100, 1, 1)}
+    yield {"date": ls.Date(2023, 2, 29)}
+    for digits in (0, 1, 2, 6, 8):
+        yield {"fraction": ls.Fraction(0, digits)}
+
+
+def test_bad_records_are_refused():
+    for fields in bad_records():
+        record = ls.Record(**fields)
+        same(number_of(ls.write, "block", record), 7, f"{fields}")
+        same(number_of(ls.write, 10, record), 1, f"{fields}, of a form that there is not")
+
+
+def test_values_of_another_type():
+    wrong = (
+        {"sync": 1}, {"lsp": 0}, {"sync": "yes"}, {"hour": True}, {"hour": 1.0}, {"hour": None}, {"date": (2024, 1, 1)}, {"date": "24-01-01"},
+        {"fraction": 0.5}, {"position": (0, 0, 0)}, {"offset": 1.5}, {"channel": False}, {"fraction": ls.Fraction(1, 3.0)},
+    )
+    for fields in wrong:
+        check(" not " in raises(TypeError, ls.write, "block", ls.Record(**fields)), f"{fields}: no TypeError that says what is needed")
+    check("Record" in raises(TypeError, ls.write, "block", {}), "a dict for a record")
+    same(str(ls.Fraction(7, 3)), "0.007", "a fraction as text")
+
+
+# ---- Refusals and forms ----
+
+
+def readme_rows():
+    path = ROOT / "scripts/test-messages.py"
+    module = importlib.util.module_from_spec(importlib.util.spec_from_file_location("messages", path))
+    module.__spec__.loader.exec_module(module)
+    return module.table()
+
+
+def test_messages():
+    rows = {(number, re.sub(r"(?<=.)([A-Z])", r"_\1", name).upper(), meaning) for number, name, meaning in readme_rows()}
+    found = {(int(refusal), refusal.name, refusal.meaning) for refusal in ls.Refusal}
+    for row in sorted(rows ^ found):
+        check(False, f"in {'README.md' if row in rows else 'refusal.py'} alone: {row}")
+    check(rows and rows == found, "the texts of README.md and of refusal.py differ")
+
+
+def test_refused():
+    for refusal in ls.Refusal:
+        refused = pickle.loads(pickle.dumps(ls.Refused(refusal)))
+        same((refused.refusal, refused.number, refused.meaning), (refusal, int(refusal), refusal.meaning), "an exception")
+        same(str(refused), f"refused with {int(refusal)}: {refusal.meaning}", "an exception's text")
+        check(isinstance(refused, ValueError), "Refused is a ValueError")
+
+
+def test_forms():
+    names = ("standard", "capture", "erlangen", "spa", "racal", "sysplex", "computime", "frame", "block")
+    same([form.name.lower() for form in ls.Form], list(names), "the forms")
+    for number, name in enumerate(names, 1):
+        string = b"" if number < 9 else ls.write("block", ls.Record())
+        for form in (number, name, name.upper(), str(number), ls.Form(number)):
+            same(number_of(ls.read, form, string), 2 if number < 9 else 0, f"form {form!r}")
+    same(ls.read("racal", b"XGU000229000000\r").date, ls.Date(2000, 2, 29), "racal")
+    for form in (0, 10, 77, -1, 2**32, 2**32 + 5, 2**64 + 5, "", "0", "10", "05", " 5", "radio"):
+        same(number_of(ls.read, form, b"XGU000229000000\r"), 1, f"form {form!r}")
+    check("racal (5), " in raises(ls.Refused, ls.read, "radio", b""), "an unknown name is not told which names there are")
+    for form in (None, 5.0, True, b"racal"):
+        check("name or a number" in raises(TypeError, ls.read, form, b""), f"form {form!r}")
+
+
+def test_forms_that_are_not_serial():
+    """Refused at the call, not at the first record."""
+    for form in (0, 8, 9, 10, "frame", "block", 2**32 + 5):
+        same(number_of(ls.heard, form, b"XGU000229000000\r"), 1, f"heard {form!r}")
+        same(number_of(ls.Listener, form), 1, f"Listener {form!r}")
+        same(number_of(ls.search, form, b"XGU000229000000\r"), 1, f"search {form!r}")
+
+
+def test_search():
+    data = b"..XGU000229000000\r.."
+    same(ls.search("racal", data), ls.Found(2, ls.read("racal", data[2:18])), "search")
+    same(ls.search("racal", bytearray(data), 2).place, 2, "search at the string")
+    for start in (3, 20, 21, 2**32, 2**64, 2**64 + 1):
+        same(number_of(ls.search, "racal", data, start), 12, f"search from {start}")
+    check("start is -1" in raises(ValueError, ls.search, "racal", data, -1), "a start below 0")
+    same(number_of(ls.search, "racal", b""), 12, "search in nothing")
+
+
+def test_bytes():
+    string = b"XGU000229000000\r"
+    doubled = bytes(byte for byte in string for _ in range(2))
+    for data in (bytearray(string), memoryview(string), memoryview(string + string)[:16], memoryview(doubled)[::2]):
+        same(ls.read("racal", data), ls.read("racal", string), f"{data!r}")
+    check("'rb'" in raises(TypeError, ls.read, "racal", string.decode()), "text for bytes")
+    check("bytes-like" in raises(TypeError, ls.read, "racal", 16), "a number for bytes")
+    for byte in (-1, 256):
+        check("range(0, 256)" in raises(ValueError, ls.Listener("racal").feed, byte), f"byte {byte}")
+
+
+def test_write_into():
+    record = ls.read("racal", b"XGU000229000000\r")
+    for room in (0, 15):
+        buffer = bytearray(b"." * room)
+        try:
+            ls.write_into("racal", record, buffer)
+            check(False, f"written into {room} bytes")
+        except ls.Refused as refused:
+            same((refused.number, buffer), (10, b"." * room), f"into {room} bytes")
+            buffer.extend(b"...")
+            same(len(buffer), room + 3, "a buffer that grows after a refusal")
+    buffer = bytearray(b"." * 17)
+    same((ls.write_into("racal", record, buffer), buffer), (16, b"XGU000229000000\r."), "into 17 bytes")
+
+
+# ---- How it is found ----
+
+
+def imported(folder, **environment):
+    words = {name: value for name, value in os.environ.items() if not name.startswith("LINDENSCOOP")}
+    code = "import lindenscoop; print(lindenscoop.read('racal', b'XGU000229000000\\r').date.year)"
+    words.update(environment, PYTHONPATH=str(folder), PYTHONDONTWRITEBYTECODE="1")
+    run = subprocess.run([sys.executable, "-c", code], env=words, cwd="/", capture_output=True, text=True)
+    return run.stdout.strip(), run.stderr
+
+
+def test_how_the_library_is_found(made):
+    with tempfile.TemporaryDirectory() as prefix:
+        packages = pathlib.Path(prefix, "lib/python3/site-packages")
+        shutil.copytree(ROOT / "python/lindenscoop", packages / "lindenscoop", ignore=shutil.ignore_patterns("__pycache__"))
+        shutil.copy(made, pathlib.Path(prefix, "lib"))
+        same(imported(packages)[0], "2000", "the library in the lib folder of a prefix")
+        shutil.move(str(pathlib.Path(prefix, "lib", made.name)), str(packages / "lindenscoop"))
+        same(imported(packages)[0], "2000", "the library beside the module")
+        out, err = imported(packages, LINDENSCOOP_LIBRARY=f"{prefix}/none.so")
+        check(out == "" and "none.so" in err, "a library that is named and missing")
+        check("make-shared.sh" in err and "LINDENSCOOP_LIBRARY" in err, "what to do where the library is missing is not said")
+
+
+def test_documentation():
+    for name in ("", ".codec", ".flat", ".form", ".library", ".listener", ".record", ".refusal"):
+        module = importlib.import_module(f"lindenscoop{name}")
+        result = doctest.testmod(module)
+        counts[True] += result.attempted - result.failed
+        counts[False] += result.failed
+    check(sorted(ls.__all__) == ls.__all__ and all(getattr(ls, name).__doc__ for name in ls.__all__), "a public name without a docstring")
+
+
+def run(test, *words):
+    try:
+        test(*words)
+    except Exception:
+        print(f"test-python: {test.__name__}:\n{traceback.format_exc()}")
+        counts[False] += 1
+
+
+def main():
+    global ls
+    sys.dont_write_bytecode = True
+    with tempfile.TemporaryDirectory() as folder:
+        subprocess.run([ROOT / "python/make-shared.sh", folder], check=True, stdout=subprocess.DEVNULL)
+        made = pathlib.Path(folder, "liblindenscoop.so.0")
+        os.environ["LINDENSCOOP_LIBRARY"] = str(made)
+        sys.path.insert(0, str(ROOT / "python"))
+        ls = importlib.import_module("lindenscoop")
+        for name, test in list(globals().items()):
+            if name.startswith("test_"):
+                run(test, *([made] if name == "test_how_the_library_is_found" else []))
+    print(f"{counts[True]} passed, {counts[False]} failed")
+    return 1 if counts[False] or not counts[True] else 0
+
+
+if __name__ == "__main__":
+    sys.exit(main())
