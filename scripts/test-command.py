@@ -551,7 +551,10 @@ def test_simulate_port():
     """A serial port as the target is set raw, so that no LF becomes CR LF."""
     recorder, port = pty.openpty()
     status, _, error = run("simulate", "computime", "--to", os.ttyname(port), "--count", "2", "--interval", "0")
-    out = os.read(recorder, 4096) if select.select([recorder], [], [], SECONDS)[0] else b""
+    out = b""
+    # a pseudo-terminal hands bytes on in its own time, and in parts
+    while select.select([recorder], [], [], SECONDS if len(out) < 48 else 0.2)[0]:
+        out += os.read(recorder, 4096)
     check("simulate onto a port", status == 0 and len(out) == 48 and out.count(b"\r\n") == 2, (status, out, error))
     os.close(recorder)
     os.close(port)

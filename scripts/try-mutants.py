@@ -21,7 +21,7 @@ not because something that it calls or cites is refused, and not because the pro
 
 The crates must be proved. For each crate a room is made: a copy of it, links to all else, and what its proof left as the folder of
 `rt dev`, which then checks only what an edit changes. Edits of the bodies of different functions are tried in one run, since a proof
-sees no body but its own function's; where anything else is refused in such a run, each of its edits is tried alone.
+sees no body but its own function's; what such a run does not settle is tried in smaller groups, and then alone.
 What `rt ci` said of an edit in must-fail is read from its log, where that is of the crate as it stands.
 A public function is one that another crate or C can reach. Edits of functions that only their own crate reaches count for the public
 functions that rest on them.
@@ -51,15 +51,24 @@ PROMISED = re.compile(r"(?!serial::)(\w+::)+(read|write)|search::search|listener
 LEAST, LEAST_OF_A_PROMISE = 2, 3
 
 
-def wrongs_of(room, group):
-    """For each edit of the group None, or what is wrong with it. What is wrong in a group is tried again alone."""
+def wrongs_of_group(room, group):
+    """For each edit of the group None, or what is wrong with it."""
     log = room.check(group)
-    wrongs = {e: log.wrong_of(e) for e in group}
-    if len(group) > 1:
-        astray = set(log.with_own_errors(room.crate)) - {name for e in group for name in e.bodies}
-        for edit in group:
-            if astray or wrongs[edit]:
-                wrongs[edit] = wrongs_of(room, [edit])[edit]
+    astray = set(log.with_own_errors(room.crate)) - {name for e in group for name in e.bodies}
+    beside = f"{', '.join(sorted(astray))} is refused beside it" if astray and len(group) > 1 else None
+    return {e: log.wrong_of(e) or beside for e in group}
+
+
+def wrongs_of(room, edits):
+    """For each edit None, or what is wrong with it. Where a function is refused, the proof of one that calls it may not be looked at: what is
+    wrong in a group is tried again in groups without such calls, and what is wrong there alone."""
+    wrongs, left = {}, edits
+    for groups in (lambda es: groups_of(es, lambda e: e.bodies), lambda es: groups_of(es, lambda e: e.bound), lambda es: [[e] for e in es]):
+        again = []
+        for group in groups(left):
+            wrongs |= wrongs_of_group(room, group)
+            again += [e for e in group if wrongs[e] and len(group) > 1]
+        left = again
     return wrongs
 
 
@@ -73,12 +82,7 @@ def try_crate(name, root, kept_as):
     wrongs = {e: log.wrong_of(e) for e, log in logs.items() if log}
     room, began = Room(crate, root, kept_as), time.time()
     try:
-        groups = groups_of([e for e in edits if not logs[e]])
-        as_it_stands = room.check([]) if groups else None
-        if groups and not as_it_stands.proved:
-            return [f"{name}: not proved as it stands, so no mutant says anything: {as_it_stands.said[-500:]}"], 0, 1
-        for group in groups:
-            wrongs |= wrongs_of(room, group)
+        wrongs |= wrongs_of(room, [e for e in edits if not logs[e]])
     finally:
         room.close()
     lines += [f"{e.label}: {wrong}" for e, wrong in wrongs.items() if wrong]
@@ -88,9 +92,10 @@ def try_crate(name, root, kept_as):
 
 
 def cost(root, name):
-    """A measure of what a crate's mutants cost, to start with the dearest."""
+    """A measure of what a crate's mutants cost, to start with the dearest; a program leaves nothing to measure by, and stands on most."""
     checked = glob.glob(f"{root}/target/rlib/{name}.rlib/toolchain/checked/*")
-    return sum(map(os.path.getsize, checked)) * (1 + len(glob.glob(f"{root}/crates/{name}/mutants/*.edit")))
+    size = sum(map(os.path.getsize, checked)) if checked else 1 << 30
+    return size * (1 + len(glob.glob(f"{root}/crates/{name}/mutants/*.edit")))
 
 
 def try_all(root, crates):

@@ -23,7 +23,7 @@ class Refusal(enum.IntEnum):
     MISSING_FIELD = 8, "a field that the form carries is absent or of the other kind"
     NOT_EXPRESSIBLE = 9, "the form has no letter for the record's values"
     SHORT_BUFFER = 10, "the buffer is shorter than the output"
-    BAD_STATE = 11, "a listener's state that no listener has: another form, too many bytes, too large a distance"
+    BAD_STATE = 11, "a listener's state that no listener has: another version or form, too many bytes, too large a distance"
     NOT_FOUND = 12, "no valid string lies wholly at or after the start of the search"
     OVERLAP = 13, "a valid string ends too close behind the last one; a listener that was started never gives it"
 

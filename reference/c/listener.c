@@ -3,12 +3,14 @@
 
 #include "plain.h"
 
+enum { VERSION = LINDENSCOOP_STATE_VERSION << 4 };
+
 uint32_t plain_start(uint32_t form, plain_listener *listener)
 {
-    *listener = (plain_listener){0};
+    *listener = (plain_listener){.form = VERSION};
     if (!plain_is_serial(form))
         return LINDENSCOOP_UNKNOWN_FORM;
-    listener->form = (uint8_t)form;
+    listener->form = (uint8_t)(VERSION | form);
     listener->distance = (uint8_t)plain_shapes[form].length;
     return LINDENSCOOP_OK;
 }
@@ -23,13 +25,13 @@ static void unroll(const plain_listener *l, size_t n, uint8_t *out)
 }
 
 /* The answer to a byte that may be the last of a string, at a distance from the record before. */
-static uint32_t completed(plain_listener *l, uint32_t distance, lindenscoop_record *record)
+static uint32_t completed(plain_listener *l, uint32_t form, uint32_t distance, lindenscoop_record *record)
 {
-    const plain_shape shape = plain_shapes[l->form];
+    const plain_shape shape = plain_shapes[form];
     uint8_t string[PLAIN_LONGEST];
     lindenscoop_record read;
     unroll(l, shape.length, string);
-    if (string[0] != shape.first || plain_read_string(l->form, string, &read) != LINDENSCOOP_OK)
+    if (string[0] != shape.first || plain_read_string(form, string, &read) != LINDENSCOOP_OK)
         return LINDENSCOOP_OK;
     if (distance + 1 < shape.length)
         return LINDENSCOOP_OVERLAP;
@@ -41,9 +43,10 @@ static uint32_t completed(plain_listener *l, uint32_t distance, lindenscoop_reco
 /* The call comes last, so that the many bytes that complete nothing pay for none. */
 static inline uint32_t feed(plain_listener *l, uint8_t byte, lindenscoop_record *record)
 {
-    if (l->form > PLAIN_FORMS)
+    const uint32_t form = l->form ^ VERSION;
+    if (form > PLAIN_FORMS)
         return LINDENSCOOP_BAD_STATE;
-    const plain_shape shape = plain_shapes[l->form];
+    const plain_shape shape = plain_shapes[form];
     const uint32_t kept = l->kept, distance = l->distance;
     if (kept >= shape.length || distance > shape.length)
         return LINDENSCOOP_BAD_STATE;
@@ -53,7 +56,7 @@ static inline uint32_t feed(plain_listener *l, uint8_t byte, lindenscoop_record 
         l->kept = (uint8_t)(kept + 1);
     if (distance < shape.length)
         l->distance = (uint8_t)(distance + 1);
-    return byte == shape.last && kept + 1 == shape.length ? completed(l, distance, record) : LINDENSCOOP_OK;
+    return byte == shape.last && kept + 1 == shape.length ? completed(l, form, distance, record) : LINDENSCOOP_OK;
 }
 
 uint32_t plain_feed(plain_listener *listener, uint8_t byte, lindenscoop_record *record)

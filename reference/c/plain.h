@@ -40,7 +40,8 @@ static inline uint8_t plain_spa_sum(const uint8_t *s)
     return sum;
 }
 
-/* The last bytes fed stand in a ring, the last `kept` of them count, and the next one goes to place `at`. */
+/* The last bytes fed stand in a ring, the last `kept` of them count, and the next one goes to place `at`. The high four bits of `form` are
+   LINDENSCOOP_STATE_VERSION. */
 typedef struct plain_listener {
     uint8_t ring[PLAIN_LONGEST];
     uint8_t at;

@@ -65,6 +65,11 @@ class Edit:
             raise BadEdit(f"'file: {file}' is no file of the crate under src/, specs/ or proofs/")
         return open(path, encoding="utf-8").read()
 
+    @property
+    def bound(self):
+        """The functions that it changes, and those that reach them or that they reach by calls."""
+        return set().union(*map(self.crate.bound_to, self.bodies))
+
     def applied(self, texts):
         """The texts of the crate's files, of which `texts` are already changed, with this edit too."""
         texts = dict(texts)
@@ -92,19 +97,19 @@ def edits_of(crate):
     return edits, wrongs
 
 
-def groups_of(edits):
-    """Edits of bodies of different functions together, every other edit alone."""
+def groups_of(edits, apart):
+    """Edits of bodies together, of which none changes a function that another must be apart from; every other edit alone."""
     groups, alone = [], []
     for edit in edits:
         if not edit.only_bodies or not edit.breaks:
             alone.append([edit])
             continue
-        for group, broken, texts in groups:
+        for group, bodies, texts in groups:
             try:
-                if not broken & edit.bodies:
+                if not bodies & apart(edit):
                     texts.update(edit.applied(texts))
                     group.append(edit)
-                    broken |= edit.bodies
+                    bodies |= edit.bodies
                     break
             except BadEdit:
                 continue

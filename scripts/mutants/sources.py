@@ -81,6 +81,14 @@ class Crate:
         reached = public and (exported or self.can_be_reached(module, owner or name))
         return Function("::".join((self.name, *module, *([owner] if owner else []), name)), reached, exported, bool(owner))
 
+    def bound_to(self, name):
+        """The function, those that reach it by calls, and those that it reaches."""
+        above, below = {name}, {name}
+        for _ in self.by_name:
+            above |= {f.name for f in self.by_name.values() if above & set(f.calls)}
+            below |= {called for n in below if n in self.by_name for called in self.by_name[n].calls}
+        return above | below
+
     def resting_on(self, name):
         """The public functions that rest on this one: itself where it is public, else those that reach it through private ones."""
         found, seen, todo = set(), set(), [name]

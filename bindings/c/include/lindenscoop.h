@@ -1,7 +1,8 @@
 /*
  * Lindenscoop: time strings of satellite clocks, read, written, searched for and listened for.
  *
- * Link with liblindenscoop.a. C99 and later, C++11 and later. No function allocates, keeps a pointer, or has
+ * Link with -llindenscoop (`pkg-config --cflags --libs lindenscoop` says how, man 3 lindenscoop the rest) or with
+ * liblindenscoop.a. C99 and later, C++11 and later. No function allocates, keeps a pointer, or has
  * state of its own, so any number of threads may call at the same time on buffers of their own.
  *
  * There are two layers. The exported functions, lindenscoop_..._raw, whose contracts are proved, take each buffer as a pointer
@@ -38,6 +39,9 @@
 #ifndef __cplusplus
 #include <stdbool.h>
 #endif
+
+/* The version of this header. The first number is that of the shared library, liblindenscoop.so.0. */
+#define LINDENSCOOP_VERSION "0.1.0"
 
 #ifdef __cplusplus
 extern "C" {
@@ -94,6 +98,9 @@ enum {
     LINDENSCOOP_LONGEST_STRING = 174
 };
 
+/* The version of a listener's layout. It changes whenever the layout does. */
+enum { LINDENSCOOP_STATE_VERSION = 1 };
+
 /*
  * A record. The numbers of an absent field, and those of a date of the other kind, are 0 when the library stores them,
  * and are not looked at when it is given them. A kind that is none of its field's, and in a field that is there a sign
@@ -132,8 +139,10 @@ typedef struct lindenscoop_record {
     uint32_t lsp;                     /* leap second pending */
 } lindenscoop_record;
 
-/* A listener. Any bytes are safe to hand in: where they are no listener's state, each byte that is fed is refused with
-   LINDENSCOOP_BAD_STATE. */
+/* A listener: a ring of 66 bytes, then a byte each for the place of the next one, how many count, the distance since the last
+   record, and the form. The last has the form in its low four bits and LINDENSCOOP_STATE_VERSION in its high four. A
+   listener may be stored and fed on later. Any bytes are safe to hand in: where they are no listener's state, or one of
+   another version, each byte that is fed is refused with LINDENSCOOP_BAD_STATE, and they are left as they are. */
 typedef struct lindenscoop_listener {
     uint8_t bytes[LINDENSCOOP_LISTENER_BYTES];
 } lindenscoop_listener;
@@ -183,7 +192,8 @@ LINDENSCOOP_NOT_NULL uint32_t lindenscoop_search_raw(uint32_t form, const uint8_
 LINDENSCOOP_NOT_NULL uint32_t lindenscoop_start_raw(uint32_t form, uint8_t *state, size_t state_length);
 
 /* Feeds one byte. 0: nothing. 100: a record is handed out and stored in the first 29 numbers, which nothing else
-   changes. 13: as 0, in place of a record that overlaps the last one. 11: not a state, and left as it is.
+   changes. 13: as 0, in place of a record that overlaps the last one. 11: not a state, or one of another
+   version, and left as it is.
    10, before all else: state_length is below 70 or numbers_length below 29; nothing is stored. */
 LINDENSCOOP_NOT_NULL uint32_t lindenscoop_feed_raw(uint8_t *state, size_t state_length, uint8_t byte, uint32_t *numbers, size_t numbers_length);
 
@@ -298,7 +308,7 @@ static inline const char *lindenscoop_message(uint32_t answer)
     case LINDENSCOOP_SHORT_BUFFER:
         return "the buffer is shorter than the output";
     case LINDENSCOOP_BAD_STATE:
-        return "a listener's state that no listener has: another form, too many bytes, too large a distance";
+        return "a listener's state that no listener has: another version or form, too many bytes, too large a distance";
     case LINDENSCOOP_NOT_FOUND:
         return "no valid string lies wholly at or after the start of the search";
     case LINDENSCOOP_OVERLAP:

@@ -204,6 +204,33 @@ static void check_stored(void)
     CHECK(lindenscoop_start(LINDENSCOOP_FRAME, &listener) == LINDENSCOOP_UNKNOWN_FORM && lindenscoop_feed(&listener, 'X', &r) == LINDENSCOOP_BAD_STATE);
 }
 
+/* A state of another version is refused and left as it is, by one byte and by many; with its own it is fed on. */
+static void check_versions(void)
+{
+    static const char racal[] = "XGU000229000000\r";
+    static const uint8_t others[] = {0x05, 0x25, 0x35, 0x45, 0x85, 0x95, 0xe5, 0xf5}; /* the form behind no version, 2, 3, 4, 8, 9, 14, 15 */
+    const unsigned form_at = LINDENSCOOP_LISTENER_BYTES - 1;
+    lindenscoop_listener listener, stored;
+    lindenscoop_record r, before;
+    size_t used = 77;
+    memset(&r, 0xa5, sizeof r);
+    before = r;
+    CHECK(lindenscoop_start(LINDENSCOOP_FRAME, &listener) == LINDENSCOOP_UNKNOWN_FORM && listener.bytes[form_at] >> 4 == LINDENSCOOP_STATE_VERSION);
+    CHECK(lindenscoop_start(LINDENSCOOP_RACAL, &listener) == LINDENSCOOP_OK && listener.bytes[form_at] >> 4 == LINDENSCOOP_STATE_VERSION);
+    CHECK(lindenscoop_feed_all(&listener, racal, 14, &used, &r) == LINDENSCOOP_OK && lindenscoop_feed(&listener, '0', &r) == LINDENSCOOP_OK);
+    CHECK(listener.bytes[form_at] == (LINDENSCOOP_STATE_VERSION << 4 | LINDENSCOOP_RACAL));
+    for (size_t i = 0; i < sizeof others; i++) {
+        listener.bytes[form_at] = others[i];
+        stored = listener;
+        CHECK(lindenscoop_feed(&listener, '\r', &r) == LINDENSCOOP_BAD_STATE && memcmp(&listener, &stored, sizeof stored) == 0);
+        CHECK(lindenscoop_feed(&listener, '0', &r) == LINDENSCOOP_BAD_STATE && memcmp(&listener, &stored, sizeof stored) == 0);
+        CHECK(lindenscoop_feed_all(&listener, racal, 16, &used, &r) == LINDENSCOOP_BAD_STATE && used == 1 && memcmp(&listener, &stored, sizeof stored) == 0);
+        CHECK(memcmp(&r, &before, sizeof r) == 0);
+    }
+    listener.bytes[form_at] = LINDENSCOOP_STATE_VERSION << 4 | LINDENSCOOP_RACAL;
+    CHECK(lindenscoop_feed(&listener, '\r', &r) == LINDENSCOOP_HEARD && r.day == 29);
+}
+
 int main(void)
 {
     lindenscoop_record r = record_of(absent);
@@ -216,6 +243,7 @@ int main(void)
     check_set(whole, true);
     check_set(other, false);
     check_stored();
+    check_versions();
     printf("fields: %u passed, %u failed\n", passed, failed);
     return failed ? 1 : 0;
 }

@@ -250,7 +250,7 @@ static void random_state(uint32_t form, unsigned char *state)
         state[AT] = (unsigned char)draw(80);
         state[KEPT] = (unsigned char)draw(34);
         state[DISTANCE] = (unsigned char)draw(34);
-        state[FORM] = (unsigned char)(1 + draw(7));
+        state[FORM] = (unsigned char)((draw(8) ? LINDENSCOOP_STATE_VERSION : draw(16)) << 4 | (1 + draw(7)));
     }
 }
 
@@ -262,7 +262,7 @@ static void call_start(void)
     uint32_t answer = seen(lindenscoop_start_raw(form, state, length));
     CHECK(answer == (length < STATE ? 10u : form < 1 || 7 < form ? 1u : 0u));
     CHECK(answer == 10 ? is_filled(state, length) : is_filled(state + STATE, length - STATE));
-    CHECK(answer == 10 || state[FORM] == (answer ? 0 : form));
+    CHECK(answer == 10 || state[FORM] == (LINDENSCOOP_STATE_VERSION << 4 | (answer ? 0 : form)));
 }
 
 /* All at once and byte by byte come to the same */
@@ -306,6 +306,7 @@ static void call_feed_byte(void)
     CHECK((answer == 10) == (state_length < STATE || numbers_length < NUMBERS));
     CHECK(answer == 100 || is_filled(numbers, 4 * numbers_length));
     CHECK((answer != 10 && answer != 11) || memcmp(state, before, state_length) == 0);
+    CHECK(answer == 10 || answer == 11 || before[FORM] >> 4 == LINDENSCOOP_STATE_VERSION);
 }
 
 /* A string that ends too early behind the last one: the distance is lowered in front of its last byte */

@@ -5,7 +5,7 @@ use crate::form::Form;
 use crate::record::Record;
 use crate::refusal::Refusal;
 
-/// The bytes of a listener's state; any bytes are safe to go on from.
+/// The bytes of a listener's state, which carry the version of their layout; any bytes are safe to go on from.
 pub type State = ffi::State;
 
 /// A listener. It hands out a record exactly when the byte just fed is the last of a valid string.
@@ -43,8 +43,8 @@ impl Listener {
         }
     }
 
-    /// Goes on from a state that was kept. Bytes that are no state of a listener are refused with
-    /// [`Refusal::BadState`] when a byte is fed.
+    /// Goes on from a state that was kept. Bytes that are no state of a listener, or one of another version, are refused
+    /// with [`Refusal::BadState`] when a byte is fed, and left as they are.
     pub fn from_state(state: State) -> Listener {
         Listener { state }
     }

@@ -48,7 +48,7 @@ refusals! {
     MissingField = 8, "a field that the form carries is absent or of the other kind";
     NotExpressible = 9, "the form has no letter for the record's values";
     ShortBuffer = 10, "the buffer is shorter than the output";
-    BadState = 11, "a listener's state that no listener has: another form, too many bytes, too large a distance";
+    BadState = 11, "a listener's state that no listener has: another version or form, too many bytes, too large a distance";
     NotFound = 12, "no valid string lies wholly at or after the start of the search";
     Overlap = 13, "a valid string ends too close behind the last one; a listener that was started never gives it";
 }

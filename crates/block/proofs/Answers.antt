@@ -1,7 +1,7 @@
 -- The answer of an edition of the block is what its lines come to one behind the other.
 use Rattle.cond.proofs.Kit.{[], _&&_, _++_, _+_, _-_, _<_, _∙_, _∷_, _≡_, _≤_, add-one, ap, arith, Bool, drop, drop-cons, eqb, false, getD, le-leb, length, List, not, not-true, refl, suc, sym, take, true, zero, ℕ}
 use Rattle.cond.specs.Pick.{pick}
-use Rattle.cond.proofs.Tests.{both}
+use Rattle.cond.proofs.Tests.{both, either-way}
 use Rattle.spelling.proofs.Stores.{lent-length}
 use Rattle.record.specs.declared.answer.Reading.the-variants as reading
 use Rattle.record.specs.declared.refusal.Refusal.the-variants as refusal
@@ -82,14 +82,14 @@ line-passes t (l ∷ ls) (suc i) h b = line-passes t ls i (both (t l) (everyLine
 
 line-within : (l : Line) (s : List ℕ) (b : State) (n : ℕ) (x : State) → isClosedLine l ≡ true → found.Line n x ≡ lineRead l s b → n ≤ length s
 unfolding lineRead
-line-within l s b n x h e = go (shape (variantAt l 0 s) 0 s) refl _ e
-  where
-    go : (t : Bool) → shape (variantAt l 0 s) 0 s ≡ t → (y : State) → found.Line n x ≡ pick t (found.Line (layoutWidth (variantAt l 0 s)) y) found.Nothing → n ≤ length s
-    go true q y r =
-        let c = both (nonempty l) (everyVariant isClosed l) h in
-        let w : n ≡ layoutWidth (variantAt l 0 s) = cc in
-        omega (arith, in-reach (variantAt l 0 s) 0 s (found-passes isClosed l 0 s (c .0) (c .1)) q)
-    go false q y r = absurd (let z : _≡_ {A = ℕ} 0 1 = cc in omega arith)
+line-within l s b n x h e =
+    either-way (shape (variantAt l 0 s) 0 s)
+    (λ q.
+    let c = both (nonempty l) (everyVariant isClosed l) h in
+    let r = rw q at e in
+    let w : n ≡ layoutWidth (variantAt l 0 s) = cc in
+    omega (arith, in-reach (variantAt l 0 s) 0 s (found-passes isClosed l 0 s (c .0) (c .1)) q))
+    (λ q. let r = rw q at e in absurd (let z : _≡_ {A = ℕ} 0 1 = cc in omega arith))
 
 module _ (ls : List Line) (s : List ℕ) (at i : ℕ) (h : i < length ls) (b : State) (x : Found) (e : x ≡ lineRead (getD ls i []) (take (length s - at) (drop at s)) b) where
   turn : readLines (drop i ls) s at b ≡ onward x (λ n y. readLines (drop (i + 1) ls) s (at + n) y)

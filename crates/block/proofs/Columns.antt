@@ -1,6 +1,7 @@
 -- A line at a column is the line at the head of the part from there on, and a slot is told by the layout that has it.
-use Rattle.cond.proofs.Kit.{[], _&&_, _++_, _+_, _||_, _∙_, _∷_, _≡_, ap, ap₂, arith, Bool, drop, drop-drop, false, false≢true, List, refl, sym, take, true, zero-add, ℕ}
+use Rattle.cond.proofs.Kit.{[], _&&_, _++_, _+_, _∙_, _∷_, _≡_, ap, ap₂, arith, Bool, drop, drop-drop, false, false≢true, List, refl, sym, take, zero-add, ℕ}
 use Rattle.cond.specs.Pick.{pick}
+use Rattle.cond.proofs.Tests.{either-way}
 use Rattle.forms.specs.Block.{Line, variantAt}
 use Rattle.forms.specs.Places.{Layout, fits, has, isOf, layoutWidth, shape, valueAt, values, width}
 use Rattle.forms.specs.Slots.{Slot}
@@ -47,22 +48,13 @@ module _ (s : List ℕ) (f : Slot) where
   pub values-none : (ps : Layout) (k : ℕ) → has ps f ≡ false → values ps k s f ≡ 0
   unfolding has values
   values-none [] k h = refl
-  values-none (p ∷ ps) k h = go (isOf f p) h (values-none ps (width p + k))
-    where
-      go : (t : Bool) → (t || has ps f) ≡ false → (has ps f ≡ false → values ps (width p + k) s f ≡ 0)
-          → pick t (valueAt p (take (width p) (drop k s))) (values ps (width p + k) s f) ≡ 0
-      go true q n = absurd (false≢true (sym q))
-      go false q n = n q
+  values-none (p ∷ ps) k h =
+      either-way (isOf f p) (λ q. absurd (false≢true (sym (rw q at h)))) (λ q. rw q (values-none ps (width p + k) (rw q at h)))
 
   pub values-append : (a b : Layout) (k : ℕ) → values (a ++ b) k s f ≡ pick (has a f) (values a k s f) (values b (layoutWidth a + k) s f)
   unfolding has values layoutWidth
   values-append [] b k = ap (λ (n : ℕ). values b n s f) (sym (zero-add k))
   values-append (p ∷ a) b k =
       let e : layoutWidth a + (width p + k) ≡ width p + layoutWidth a + k = omega arith in
-      go (isOf f p) (values-append a b (width p + k) ∙ ap (λ (n : ℕ). pick (has a f) (values a (width p + k) s f) (values b n s f)) e)
-    where
-      go : (t : Bool) → values (a ++ b) (width p + k) s f ≡ pick (has a f) (values a (width p + k) s f) (values b (width p + layoutWidth a + k) s f)
-          → pick t (valueAt p (take (width p) (drop k s))) (values (a ++ b) (width p + k) s f)
-          ≡ pick (t || has a f) (pick t (valueAt p (take (width p) (drop k s))) (values a (width p + k) s f)) (values b (width p + layoutWidth a + k) s f)
-      go true q = refl
-      go false q = q
+      let i = values-append a b (width p + k) ∙ ap (λ (n : ℕ). pick (has a f) (values a (width p + k) s f) (values b n s f)) e in
+      either-way (isOf f p) (λ q. simp q) (λ q. rw q i)

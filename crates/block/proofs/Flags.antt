@@ -1,11 +1,11 @@
 -- The lines of the yes or no fields: one law for their reader, over the key, the slot and the number of the line.
-use Rattle.cond.proofs.Kit.{[], _<_, _∙_, _≡_, _≤_, ap, ap₂, arith, Bool, drop, false, getD, List, refl, sym, take, true, ℕ, _+_, _∷_, _&&_, and-false, eq-eqb, eqb, length}
+use Rattle.cond.proofs.Kit.{[], _<_, _∙_, _≡_, _≤_, ap, ap₂, arith, Bool, drop, false, getD, List, refl, sym, take, true, ℕ, _+_, _∷_, and-false, eq-eqb, length}
 use Prim.Native.String.{String}
 use Rattle.spelling.specs.Bytes.{sameBytes, text}
 use Rattle.spelling.specs.Spelling.{isSpelled, valueOf, word}
 use Rattle.spelling.proofs.Spelling.{sized-value, spelled-parts}
 use Rattle.spelling.proofs.SameBytes.{same-bytes}
-use Rattle.cond.proofs.Tests.{both}
+use Rattle.cond.proofs.Tests.{both, either-way}
 use Rattle.record.specs.declared.Flag.the-variants as flagIs
 use Rattle.forms.specs.Block.{blockLines, flagLine, variantAt}
 use Rattle.forms.specs.Places.{Layout, fixed, layoutWidth, part, shape, values}
@@ -19,11 +19,8 @@ use Rattle.block_lines.specs.declared.state.State.{State}
 -- one word alone is spelled where its bytes stand
 spelled-word : (m : ℕ) (bs x : List ℕ) → isSpelled (word m bs) x ≡ sameBytes x bs
 unfolding isSpelled
-spelled-word m bs x = go (sameBytes x bs) refl
-  where
-    go : (t : Bool) → sameBytes x bs ≡ t → (eqb (length x) (length bs) && sameBytes x bs) ≡ sameBytes x bs
-    go true e = simp (eq-eqb _ _ (ap length (same-bytes x bs e)))
-    go false e = simp (e, and-false)
+spelled-word m bs x =
+    either-way (sameBytes x bs) (λ e. simp (eq-eqb _ _ (ap length (same-bytes x bs e)))) (λ e. simp (e, and-false))
 
 -- what a variant of the line tells behind lines that told b
 abbrev decodedIn : Layout → List ℕ → State → State

@@ -1,5 +1,6 @@
 -- A layout stored into the part of a buffer from a column onward is the layout stored at that column.
-use Rattle.cond.proofs.Kit.{[], _++_, _+_, _-_, _∙_, _∷_, _≡_, _≤_, ap, append-nil, arith, Bool, drop, drop-length, false, leb, leb-false, leb-true, length, length-append, length-drop, length-take-le, List, refl, set, sets, suc, sym, take, take-all, take-append-drop, true, ℕ}
+use Rattle.cond.proofs.Kit.{[], _++_, _+_, _-_, _∙_, _∷_, _≡_, _≤_, ap, append-nil, arith, drop, drop-length, leb, leb-false, leb-true, length, length-append, length-drop, length-take-le, List, refl, set, sets, suc, sym, take, take-all, take-append-drop, ℕ}
+use Rattle.cond.proofs.Tests.{either-way}
 use Rattle.forms.specs.Places.{Place, Layout, fixed, layoutWidth, part, placed, width}
 use Rattle.forms.specs.Slots.{Slot, Values}
 use Rattle.spelling.specs.Spelling.{spell}
@@ -26,15 +27,14 @@ sets-behind a b j (x ∷ xs) =
     ∙ sets-behind a (set b j x) (suc j) xs
 
 stored-behind : (a b : List ℕ) (j : ℕ) (xs : List ℕ) → stored (a ++ b) (j + length a) xs ≡ a ++ stored b j xs
-stored-behind a b j xs = go (leb (j + length xs) (length b)) refl
-  where
-    go : (t : Bool) → leb (j + length xs) (length b) ≡ t → stored (a ++ b) (j + length a) xs ≡ a ++ stored b j xs
-    go true e =
-        let h = leb-true (j + length xs) (length b) e in
-        stored-in (a ++ b) (j + length a) xs (omega (arith, length-append a b)) ∙ sets-behind a b j xs ∙ ap (λ (l : List ℕ). a ++ l) (sym (stored-in b j xs h))
-    go false e =
-        let h = leb-false (j + length xs) (length b) e in
-        stored-out (a ++ b) (j + length a) xs (omega (arith, length-append a b)) ∙ ap (λ (l : List ℕ). a ++ l) (sym (stored-out b j xs h))
+stored-behind a b j xs =
+    either-way (leb (j + length xs) (length b))
+    (λ e.
+    let h = leb-true (j + length xs) (length b) e in
+    stored-in (a ++ b) (j + length a) xs (omega (arith, length-append a b)) ∙ sets-behind a b j xs ∙ ap (λ (l : List ℕ). a ++ l) (sym (stored-in b j xs h)))
+    (λ e.
+    let h = leb-false (j + length xs) (length b) e in
+    stored-out (a ++ b) (j + length a) xs (omega (arith, length-append a b)) ∙ ap (λ (l : List ℕ). a ++ l) (sym (stored-out b j xs h)))
 
 stores-behind : (ps : Layout) (v : Values) (a b : List ℕ) (j : ℕ) → stores ps (j + length a) v (a ++ b) ≡ a ++ stores ps j v b
 unfolding stores

@@ -44,9 +44,12 @@ pub fn month_length(y: u32, m: u32) -> u32
 pub fn is_date(y: u32, m: u32, d: u32) -> bool
     ensures { λ r. ⌜ r ≡ isDate y m d ⌝ }
 {
+    if !is_month(y, m) {
+        return false;
+    }
     // Every month has 28 days, so only a later day needs a look at the table, and the test is short enough to be inlined.
     if d <= 28 {
-        return (1 <= d) & is_month(y, m);
+        return 1 <= d;
     }
     d <= month_length(y, m)
 }

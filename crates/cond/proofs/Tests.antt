@@ -25,6 +25,11 @@ pub other : (a b : Bool) → (a || b) ≡ true → a ≡ false → b ≡ true
 other true b h e = absurd (false≢true (sym e))
 other false b h e = h
 
+-- what follows either way
+pub either-way : {A : Type 0} (b : Bool) → (b ≡ true → A) → (b ≡ false → A) → A
+either-way true f g = f refl
+either-way false f g = g refl
+
 pub pick-le : (b : Bool) (x y n : ℕ) → x ≤ n → y ≤ n → pick b x y ≤ n
 pick-le true x y n h l = h
 pick-le false x y n h l = l

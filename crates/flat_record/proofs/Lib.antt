@@ -1,3 +1,4 @@
+pub mod OneKind
 pub mod Flat
 pub mod Put
 pub mod Fields

@@ -74,15 +74,15 @@ fn channel_from(kind: u32, number: u32) -> Channel
     }
 }
 
+// An array, since the compiler would repeat a match on a kind in all that the writers do with the flag. Four elements are laid out at once.
 fn flag_from(kind: u32) -> Flag
     ensures { λ r. ⌜ r ≡ flagIn (kindOf kind) ⌝ }
 {
-    match kind_of(kind) {
-        Kind::Absent => Flag::Absent,
-        Kind::First => Flag::No,
-        Kind::Second => Flag::Yes,
-        Kind::Unknown => Flag::Absent,
+    let flags = [Flag::Absent, Flag::No, Flag::Yes, Flag::Absent];
+    if 2 < kind {
+        return Flag::Absent;
     }
+    flags[kind as usize]
 }
 
 fn sign_fits(sign: u32, magnitude: u32) -> bool
@@ -103,11 +103,10 @@ fn offset_fits(n: &[u32]) -> bool
     requires { ⌜ length (now n) ≡ size ⌝ }
     ensures { λ r. ⌜ r ≡ offsetFits (now (n .entry)) ⌝ }
 {
-    match kind_of(n[18]) {
-        Kind::Absent => true,
-        Kind::First => sign_fits(n[19], n[20]),
-        Kind::Second => false,
-        Kind::Unknown => false,
+    match n[18] {
+        0 => true,
+        1 => sign_fits(n[19], n[20]),
+        _ => false,
     }
 }
 
@@ -127,11 +126,10 @@ fn position_fits(n: &[u32]) -> bool
     requires { ⌜ length (now n) ≡ size ⌝ }
     ensures { λ r. ⌜ r ≡ positionFits (now (n .entry)) ⌝ }
 {
-    match kind_of(n[21]) {
-        Kind::Absent => true,
-        Kind::First => sign_fits(n[22], n[23]) & sign_fits(n[24], n[25]),
-        Kind::Second => false,
-        Kind::Unknown => false,
+    match n[21] {
+        0 => true,
+        1 => sign_fits(n[22], n[23]) & sign_fits(n[24], n[25]),
+        _ => false,
     }
 }
 

@@ -1,11 +1,10 @@
 -- Which bytes a layout can hold: a test of every byte that its places allow holds of every string that it writes.
-use Rattle.cond.proofs.Kit.{[], _%_, _&&_, _++_, _/_, _<_, _^_, _∷_, _≡_, arith, Bool, drop, eqb, false, getD, length, List, lit<, ltb, ltb-false, ltb-true, mod-lt, refl, suc, take, true, zero, ℕ}
-use Rattle.cond.specs.Pick.{pick}
+use Rattle.cond.proofs.Kit.{[], _%_, _&&_, _++_, _/_, _<_, _^_, _∷_, _≡_, arith, Bool, drop, eqb, getD, length, List, lit<, ltb, ltb-false, ltb-true, mod-lt, refl, suc, take, true, zero, ℕ}
 use Rattle.spelling.specs.Bytes.{Group, allAre, bitsOf, blanked, decimal, digit, digitOf, gap, groupsOf, hexOf, spelledIn}
 use Rattle.forms.specs.Places.{Place, Layout, bytesOf, fixed, part, placed}
 use Rattle.forms.specs.Slots.{Values}
 use Rattle.spelling.specs.Spelling.{bits, digits, grouped, hex, padded, word, words}
-use Rattle.cond.proofs.Tests.{both}
+use Rattle.cond.proofs.Tests.{both, either-way}
 
 -- the test holds of all numbers below n
 unfoldable pub upTo : ℕ → (ℕ → Bool) → Bool
@@ -38,14 +37,9 @@ allowsLayout t (p ∷ ps) = allows t p && allowsLayout t ps
 below : (n : ℕ) (t : ℕ → Bool) → upTo n t ≡ true → (d : ℕ) → d < n → t d ≡ true
 unfolding upTo
 below zero t h d l = absurd (omega arith)
-below (suc n) t h d l = go (ltb d n) refl (below n t (both (t n) (upTo n t) h .1) d)
-  where
-    go : (b : Bool) → ltb d n ≡ b → (d < n → t d ≡ true) → t d ≡ true
-    go true e i = i (ltb-true d n e)
-    go false e i =
-        let q = ltb-false d n e in
-        let m : d ≡ n = omega arith in
-        rw m (both (t n) (upTo n t) h .0)
+below (suc n) t h d l =
+    either-way (ltb d n) (λ e. below n t (both (t n) (upTo n t) h .1) d (ltb-true d n e))
+    (λ e. let m : d ≡ n = omega (arith, ltb-false d n e) in rw m (both (t n) (upTo n t) h .0))
 
 module _ (t : ℕ → Bool) where
   spelled-all : (base : ℕ) (glyph : ℕ → ℕ) → 0 < base → upTo base (λ (d : ℕ). t (glyph d)) ≡ true → (w n : ℕ) → allAre t (spelledIn base glyph w n) ≡ true
@@ -58,11 +52,9 @@ module _ (t : ℕ → Bool) where
   unfolding allAre blanked
   blanked-all [] s h = refl
   blanked-all (b ∷ []) s h = h
-  blanked-all (b ∷ c ∷ bs) s h = go (eqb b 48) (blanked-all (c ∷ bs) s (both (t b) (allAre t (c ∷ bs)) h .1))
-    where
-      go : (q : Bool) → allAre t (blanked (c ∷ bs)) ≡ true → allAre t (pick q (32 ∷ blanked (c ∷ bs)) (b ∷ c ∷ bs)) ≡ true
-      go true i = simp (s, i)
-      go false i = h
+  blanked-all (b ∷ c ∷ bs) s h =
+      let i = blanked-all (c ∷ bs) s (both (t b) (allAre t (c ∷ bs)) h .1) in
+      either-way (eqb b 48) (λ e. simp (e, s, i)) (λ e. rw e h)
 
   bit-all : (n : ℕ) → (t 0 && t 1) ≡ true → t (n % 2) ≡ true
   bit-all n h = go (n % 2) (mod-lt n (lit< tt))

@@ -1,12 +1,11 @@
 -- Layouts one behind the other: what the parts pass, the whole passes.
 use Rattle.cond.proofs.Kit.{[], _&&_, _++_, _+_, _||_, _∙_, _∷_, _≡_, _≤_, and-assoc, ap, arith, Bool, drop, false, List, not, or-assoc, refl, sym, take, true, zero-add, ℕ}
-use Rattle.cond.specs.Pick.{pick}
-use Rattle.cond.proofs.Tests.{both, both-hold, or-right}
+use Rattle.cond.proofs.Tests.{both, both-hold, either-way, or-right}
 use Rattle.forms.specs.Checksum.{Checksum}
 use Rattle.forms.specs.Places.{Place, Layout, hasWords, fits, fixed, has, isOf, part, layoutWidth, shape, width, hasWord}
 use Rattle.forms.specs.Slots.{Slot, Values}
 use Rattle.forms.proofs.Allowed.{allows, allowsLayout}
-use Rattle.forms.proofs.LayoutLimits.{limitOf, placeLimit}
+use Rattle.forms.proofs.LayoutLimits.{limitOf}
 use Rattle.forms.proofs.Layouts.{apart, apartLayout, soundPlace, soundLayout}
 use Rattle.forms.proofs.Slots.{slot-self}
 use Rattle.forms.proofs.Sound.{wide, wideLayout}
@@ -58,11 +57,7 @@ allows-append t (p ∷ a) b h l =
 pub limit-append : (a b : Layout) (f : Slot) (n : ℕ) → limitOf a f ≤ n → limitOf b f ≤ n → limitOf (a ++ b) f ≤ n
 unfolding limitOf
 limit-append [] b f n h l = l
-limit-append (p ∷ a) b f n h l = go (isOf f p) h (λ i. limit-append a b f n i l)
-  where
-    go : (t : Bool) → pick t (placeLimit p) (limitOf a f) ≤ n → (limitOf a f ≤ n → limitOf (a ++ b) f ≤ n) → pick t (placeLimit p) (limitOf (a ++ b) f) ≤ n
-    go true h i = h
-    go false h i = i h
+limit-append (p ∷ a) b f n h l = either-way (isOf f p) (λ e. rw e (rw e at h)) (λ e. rw e (limit-append a b f n (rw e at h) l))
 
 -- no slot has a place in both
 

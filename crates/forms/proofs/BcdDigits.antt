@@ -1,7 +1,7 @@
 -- A digit over 9 makes its place tell a number beyond all others, which is outside its range in each of the five places.
 use Rattle.cond.proofs.Kit.{[], _<_, _∙_, _∷_, _≡_, _≤_, ap, arith, Bool, eqb, eqb-true, false, false≢true, leb-true, length, List, ltb, ltb-true, not, refl, sym, true, ℕ}
 use Rattle.cond.specs.Pick.{pick}
-use Rattle.cond.proofs.Tests.{both}
+use Rattle.cond.proofs.Tests.{both, either-way}
 use Rattle.calendar.specs.Answers.{dateOfDay}
 use Rattle.calendar.specs.Calendar.{isDate}
 use Rattle.calendar.specs.declared.MonthDay.{MonthDay}
@@ -88,11 +88,8 @@ module _ (s : List ℕ) (l : length s ≡ 100) (h : ranges (carries frame) (valu
 
 -- so a digit over 9 is out of range
 over-ranges : (s : List ℕ) → length s ≡ 100 → hasDigitOver9 s ≡ true → ranges (carries frame) (valuesBy frame s) ≡ false
-over-ranges s l h = go (ranges (carries frame) (valuesBy frame s)) refl
-  where
-    go : (b : Bool) → ranges (carries frame) (valuesBy frame s) ≡ b → b ≡ false
-    go false e = refl
-    go true e = absurd (false≢true (ap not (sym (all-decimal s l e)) ∙ h))
+over-ranges s l h =
+    either-way (ranges (carries frame) (valuesBy frame s)) (λ e. absurd (false≢true (ap not (sym (all-decimal s l e)) ∙ h))) (λ e. e)
 
 over-four : (s : List ℕ) → length s ≡ 100 → hasDigitOver9 s ≡ true → readNumber (validated (carries frame) (valuesBy frame s)) ≡ 4
 unfolding validated

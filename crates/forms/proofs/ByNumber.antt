@@ -1,6 +1,6 @@
 -- What holds of each form of a list and of no form holds of the form of any number.
-use Rattle.cond.proofs.Kit.{[], _∷_, _≡_, Bool, eqb, eqb-true, false, List, refl, true, ℕ}
-use Rattle.cond.specs.Pick.{pick}
+use Rattle.cond.proofs.Kit.{[], _∷_, eqb, eqb-true, List, ℕ}
+use Rattle.cond.proofs.Tests.{either-way}
 use Rattle.forms.specs.Forms.{FormKind, Numbered, formKindOf, unknown}
 
 abbrev pub OfEach : (ℕ → FormKind → Type 0) → List Numbered → Type 0
@@ -14,8 +14,5 @@ a also b = (a, b)
 pub by-number : (P : ℕ → FormKind → Type 0) (es : List Numbered) → OfEach P es → ((n : ℕ) → P n unknown) → (n : ℕ) → P n (formKindOf es n)
 unfolding formKindOf
 by-number P [] h u n = u n
-by-number P (e ∷ es) h u n = go (eqb n (e .number)) refl (by-number P es (h .1) u n)
-  where
-    go : (b : Bool) → eqb n (e .number) ≡ b → P n (formKindOf es n) → P n (pick b (e .kind) (formKindOf es n))
-    go true t i = let q = eqb-true n (e .number) t in rw q (h .0)
-    go false t i = i
+by-number P (e ∷ es) h u n =
+    either-way (eqb n (e .number)) (λ t. rw (t, eqb-true n (e .number) t) (h .0)) (λ t. rw t (by-number P es (h .1) u n))

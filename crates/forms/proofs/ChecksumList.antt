@@ -1,7 +1,7 @@
 -- The checksums of a form: written, each holds; read, each is the one that is written again.
-use Rattle.cond.proofs.Kit.{[], _&&_, _||_, _∙_, _∷_, _≡_, ap, Bool, eq-eqb, eqb, eqb-true, false, false≢true, List, not, not-true, refl, subst, sym, true, ℕ}
+use Rattle.cond.proofs.Kit.{[], _&&_, _∙_, _∷_, _≡_, ap, Bool, eq-eqb, eqb, eqb-true, false, false≢true, List, not, not-true, refl, subst, sym, true, ℕ}
 use Rattle.cond.specs.Pick.{pick}
-use Rattle.cond.proofs.Tests.{both, or-left, or-right}
+use Rattle.cond.proofs.Tests.{both, either-way, or-left, or-right}
 use Rattle.forms.specs.All.{all}
 use Rattle.forms.specs.Checksum.{Checksum, checksumOf, checksumTests, checksumsHold, withChecksums}
 use Rattle.forms.specs.Places.{Layout, has}
@@ -46,21 +46,14 @@ pub not-checked : (ps : Layout) (cs : List Checksum) → checksumsSound ps cs �
 not-checked ps [] o f n = refl
 not-checked ps (c ∷ cs) o f n =
     let a = sound-of ps c cs o in
-    go (same f (c .slot)) refl (a .isOfChecksum) (not-checked ps cs (a .others) f n)
-  where
-    go : (b : Bool) → same f (c .slot) ≡ b → isChecksum (c .slot) ≡ true → among f (slotsOf cs) ≡ false → (b || among f (slotsOf cs)) ≡ false
-    go true q e i = absurd (false≢true (sym n ∙ ap isChecksum (same-slot f (c .slot) q) ∙ e))
-    go false q e i = i
+    either-way (same f (c .slot)) (λ q. absurd (false≢true (sym n ∙ ap isChecksum (same-slot f (c .slot) q) ∙ a .isOfChecksum)))
+    (λ q. rw q (not-checked ps cs (a .others) f n))
 
 -- it keeps its value
 pub other-value : (cs : List Checksum) (s : List ℕ) (v : Values) (f : Slot) → among f (slotsOf cs) ≡ false → withChecksums cs s v f ≡ v f
 other-value [] s v f h = refl
-other-value (c ∷ cs) s v f h = go (same f (c .slot)) h (other-value cs s v f)
-  where
-    go : (b : Bool) → (b || among f (slotsOf cs)) ≡ false → (among f (slotsOf cs) ≡ false → withChecksums cs s v f ≡ v f)
-        → pick b (checksumOf c s) (withChecksums cs s v f) ≡ v f
-    go true h i = absurd (false≢true (sym h))
-    go false h i = i h
+other-value (c ∷ cs) s v f h =
+    either-way (same f (c .slot)) (λ e. absurd (false≢true (sym (rw e at h)))) (λ e. rw e (other-value cs s v f (rw e at h)))
 
 -- a slot of another checksum is not this one's
 no-other : (f : Slot) (c : Checksum) (cs : List Checksum) (t : List ℕ) (w : Values) → among f (slotsOf cs) ≡ true → among (c .slot) (slotsOf cs) ≡ false
@@ -89,9 +82,5 @@ checksums-again ps [] s t v w o e h f i = absurd (false≢true i)
 checksums-again ps (c ∷ cs) s t v w o e h f i =
     let a = sound-of ps c cs o in
     let b = all-cons (eqb (v (c .slot)) (checksumOf c s)) (checksumTests cs s v) h in
-    go (same f (c .slot)) refl i (e c (a .unchecked) ∙ sym (eqb-true _ _ (b .0))) (checksums-again ps cs s t v w (a .others) e (b .1) f)
-  where
-    go : (x : Bool) → same f (c .slot) ≡ x → (x || among f (slotsOf cs)) ≡ true → checksumOf c t ≡ v (c .slot)
-        → (among f (slotsOf cs) ≡ true → withChecksums cs t w f ≡ v f) → pick x (checksumOf c t) (withChecksums cs t w f) ≡ v f
-    go true q i n m = n ∙ ap v (sym (same-slot f (c .slot) q))
-    go false q i n m = m i
+    either-way (same f (c .slot)) (λ q. rw q (e c (a .unchecked) ∙ sym (eqb-true _ _ (b .0)) ∙ ap v (sym (same-slot f (c .slot) q))))
+    (λ q. rw q (checksums-again ps cs s t v w (a .others) e (b .1) f (rw q at i)))

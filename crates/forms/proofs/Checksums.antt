@@ -3,7 +3,7 @@ use Rattle.cond.proofs.Kit.{[], _&&_, _++_, _+_, _-_, _<_, _||_, _∙_, _∷_, 
 use lib.Bits.{bitXor, xor-lt}
 use Rattle.cond.specs.Pick.{pick}
 use Rattle.cond.proofs.Parts.{drop-take}
-use Rattle.cond.proofs.Tests.{both, either, or-left, or-right}
+use Rattle.cond.proofs.Tests.{both, either, either-way, or-left, or-right}
 use Rattle.spelling.specs.Bytes.{allAre, xorFrom}
 use Rattle.spelling.specs.Spelling.{spell}
 use Rattle.forms.specs.Checksum.{Checksum, Rule, checksumOf, evenOnes, exclusiveOr, totalBy}
@@ -75,27 +75,23 @@ module _ (v w : Values) where
 
   pub range-alike : (ps : Layout) (m n : ℕ) → Alike ps → soundLayout ps ≡ true → roomyLayout ps v ≡ true → roomyLayout ps w ≡ true → uncheckedFrom ps m n ≡ true
       → take n (drop m (bytesOf ps v)) ≡ take n (drop m (bytesOf ps w))
-  unfolding uncheckedFrom
-  range-alike [] m n e s x y h = unfold bytesOf in refl
-  range-alike (p ∷ ps) m n e s x y h = go (leb (width p) m) refl h (range-alike ps (m - width p) n (behind-alike p ps e))
-    where
-      go : (b : Bool) → leb (width p) m ≡ b → pick b (uncheckedFrom ps (m - width p) n) (unchecked (p ∷ ps) (m + n)) ≡ true
-          → (soundLayout ps ≡ true → roomyLayout ps v ≡ true → roomyLayout ps w ≡ true → uncheckedFrom ps (m - width p) n ≡ true
-          → take n (drop (m - width p) (bytesOf ps v)) ≡ take n (drop (m - width p) (bytesOf ps w)))
-          → take n (drop m (bytesOf (p ∷ ps) v)) ≡ take n (drop m (bytesOf (p ∷ ps) w))
-      go true q h i =
-          unfold bytesOf soundLayout roomyLayout in
-          let a = both (soundPlace p) (soundLayout ps) s in
-          let b = both (roomy p v) (roomyLayout ps v) x in
-          let c = both (roomy p w) (roomyLayout ps w) y in
-          let l = leb-true (width p) m q in
-          let past : (u : Values) → length (placed p u) ≡ width p → drop m (placed p u ++ bytesOf ps u) ≡ drop (m - width p) (bytesOf ps u) =
-          λ u k.
-          let z : m ≡ width p + (m - width p) = omega arith in
-          ap (λ (j : ℕ). drop j (placed p u ++ bytesOf ps u)) z ∙ sym (drop-drop (m - width p) (width p) (placed p u ++ bytesOf ps u))
-          ∙ ap (drop (m - width p)) (drop-at (placed p u) (bytesOf ps u) (width p) k) in
-          ap (take n) (past v (placed-length p v (a .0) (b .0))) ∙ i (a .1) (b .1) (c .1) h ∙ sym (ap (take n) (past w (placed-length p w (a .0) (c .0))))
-      go false q h i = sym (drop-take m n _) ∙ ap (drop m) (front-alike (p ∷ ps) (m + n) e s x y h) ∙ drop-take m n _
+  unfolding bytesOf soundLayout roomyLayout uncheckedFrom
+  range-alike [] m n e s x y h = refl
+  range-alike (p ∷ ps) m n e s x y h =
+      either-way (leb (width p) m)
+      (λ q.
+      let a = both (soundPlace p) (soundLayout ps) s in
+      let b = both (roomy p v) (roomyLayout ps v) x in
+      let c = both (roomy p w) (roomyLayout ps w) y in
+      let l = leb-true (width p) m q in
+      let past : (u : Values) → length (placed p u) ≡ width p → drop m (placed p u ++ bytesOf ps u) ≡ drop (m - width p) (bytesOf ps u) =
+      λ u k.
+      let z : m ≡ width p + (m - width p) = omega arith in
+      ap (λ (j : ℕ). drop j (placed p u ++ bytesOf ps u)) z ∙ sym (drop-drop (m - width p) (width p) (placed p u ++ bytesOf ps u))
+      ∙ ap (drop (m - width p)) (drop-at (placed p u) (bytesOf ps u) (width p) k) in
+      let i = range-alike ps (m - width p) n (behind-alike p ps e) (a .1) (b .1) (c .1) (rw q at h) in
+      ap (take n) (past v (placed-length p v (a .0) (b .0))) ∙ i ∙ sym (ap (take n) (past w (placed-length p w (a .0) (c .0)))))
+      (λ q. sym (drop-take m n _) ∙ ap (drop m) (front-alike (p ∷ ps) (m + n) e s x y (rw q at h)) ∙ drop-take m n _)
 
 abbrev pub isByte : ℕ → Bool
 isByte b = ltb b 256

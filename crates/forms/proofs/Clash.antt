@@ -2,7 +2,7 @@
 -- other does not admit.
 use Rattle.cond.proofs.Kit.{[], _&&_, _+_, _-_, _<_, _||_, _∙_, _∷_, _≡_, _≤_, ap, arith, Bool, drop, eq-eqb, eqb, eqb-true, false, false≢true, getD, getD-drop, getD-take, le-leb, leb, leb-true, length, length-drop, length-take, List, ltb, ltb-false, ltb-true, not, not-true, refl, suc, sym, take, true, zero, ℕ, ⊎-elim}
 use Rattle.cond.specs.Pick.{pick}
-use Rattle.cond.proofs.Tests.{both, both-hold, either, or-right}
+use Rattle.cond.proofs.Tests.{both, both-hold, either, either-way, or-right}
 use Rattle.spelling.specs.Bytes.{areDigits, arePadded, isBit, isDigit, isHex, isWord, sameBytes}
 use Rattle.spelling.specs.Spelling.{Spelling, bits, digits, grouped, hex, isMadeOf, padded, word, words}
 use Rattle.spelling.proofs.Spelling.{spelled-parts}
@@ -47,34 +47,25 @@ same-at x y i h = eq-eqb _ _ (ap (λ (z : List ℕ). getD z i 0) (same-bytes x y
 lettered-at : (ws : List (List ℕ)) (x : List ℕ) (i : ℕ) → isWord ws x ≡ true → lettered ws i (getD x i 0) ≡ true
 unfolding isWord lettered
 lettered-at [] x i h = absurd (false≢true h)
-lettered-at (y ∷ ys) x i h = go (sameBytes x y) refl h (lettered-at ys x i)
-  where
-    go : (t : Bool) → sameBytes x y ≡ t → (t || isWord ys x) ≡ true → (isWord ys x ≡ true → lettered ys i (getD x i 0) ≡ true)
-        → (eqb (getD x i 0) (getD y i 0) || lettered ys i (getD x i 0)) ≡ true
-    go true e h n = simp (same-at x y i e)
-    go false e h n = or-right (eqb (getD x i 0) (getD y i 0)) (lettered ys i (getD x i 0)) (n h)
+lettered-at (y ∷ ys) x i h =
+    either-way (sameBytes x y) (λ e. simp (same-at x y i e))
+    (λ e. or-right (eqb (getD x i 0) (getD y i 0)) (lettered ys i (getD x i 0)) (lettered-at ys x i (rw e at h)))
 
 padded-at : (x : List ℕ) (i : ℕ) → arePadded x ≡ true → i < length x → (eqb (getD x i 0) 32 || isDigit (getD x i 0)) ≡ true
 unfolding arePadded
 padded-at [] i h l = absurd (false≢true h)
 padded-at (b ∷ []) zero h l = or-right (eqb b 32) (isDigit b) h
 padded-at (b ∷ []) (suc i) h l = absurd (omega arith)
-padded-at (b ∷ c ∷ bs) zero h l = go (eqb b 32) h
-  where
-    go : (t : Bool) → pick t (arePadded (c ∷ bs)) ((leb 49 b && leb b 57) && areDigits (c ∷ bs)) ≡ true → (t || isDigit b) ≡ true
-    go true h = refl
-    go false h =
-        let e = both (leb 49 b) (leb b 57) (both (leb 49 b && leb b 57) (areDigits (c ∷ bs)) h .0) in
-        both-hold (leb 48 b) (leb b 57) (le-leb 48 b (omega (arith, leb-true 49 b (e .0)))) (e .1)
-padded-at (b ∷ c ∷ bs) (suc i) h l = go (eqb b 32) h (padded-at (c ∷ bs) i)
-  where
-    go : (t : Bool) → pick t (arePadded (c ∷ bs)) ((leb 49 b && leb b 57) && areDigits (c ∷ bs)) ≡ true
-        → (arePadded (c ∷ bs) ≡ true → i < suc (length bs) → (eqb (getD (c ∷ bs) i 0) 32 || isDigit (getD (c ∷ bs) i 0)) ≡ true)
-        → (eqb (getD (c ∷ bs) i 0) 32 || isDigit (getD (c ∷ bs) i 0)) ≡ true
-    go true h n = n h (omega arith)
-    go false h n =
-        or-right (eqb (getD (c ∷ bs) i 0) 32) (isDigit (getD (c ∷ bs) i 0))
-        (all-at isDigit (c ∷ bs) i (both (leb 49 b && leb b 57) (areDigits (c ∷ bs)) h .1) (omega arith))
+padded-at (b ∷ c ∷ bs) zero h l =
+    either-way (eqb b 32) (λ q. simp q)
+    (λ q.
+    let e = both (leb 49 b) (leb b 57) (both (leb 49 b && leb b 57) (areDigits (c ∷ bs)) (rw q at h) .0) in
+    or-right (eqb b 32) (isDigit b) (both-hold (leb 48 b) (leb b 57) (le-leb 48 b (omega (arith, leb-true 49 b (e .0)))) (e .1)))
+padded-at (b ∷ c ∷ bs) (suc i) h l =
+    either-way (eqb b 32) (λ q. padded-at (c ∷ bs) i (rw q at h) (omega arith))
+    (λ q.
+    or-right (eqb (getD (c ∷ bs) i 0) 32) (isDigit (getD (c ∷ bs) i 0))
+    (all-at isDigit (c ∷ bs) i (both (leb 49 b && leb b 57) (areDigits (c ∷ bs)) (rw q at h) .1) (omega arith)))
 
 made-of : (c : Spelling) (f : Slot) (x : List ℕ) (i : ℕ) → isMadeOf c x ≡ true → i < length x → admits (inPlace (part c f) i) (getD x i 0) ≡ true
 made-of (digits w) f x i h l = all-at isDigit x i h l
@@ -95,19 +86,15 @@ unfolding shape admittedAt
 shape-admits [] k s i h l = refl
 shape-admits (p ∷ ps) k s i h l =
     let e = both (fits p (take (width p) (drop k s))) (shape ps (width p + k) s) h in
-    go (ltb i (width p)) refl (e .0) (shape-admits ps (width p + k) s (i - width p) (e .1))
-  where
-    go : (t : Bool) → ltb i (width p) ≡ t → fits p (take (width p) (drop k s)) ≡ true
-        → (width p + k + (i - width p) < length s → admits (admittedAt ps (i - width p)) (getD s (width p + k + (i - width p)) 0) ≡ true)
-        → admits (pick t (inPlace p i) (admittedAt ps (i - width p))) (getD s (k + i) 0) ≡ true
-    go true e f n =
-        let m = ltb-true i (width p) e in
-        let q : getD (take (width p) (drop k s)) i 0 ≡ getD s (k + i) 0 = getD-take (width p) (drop k s) i 0 m ∙ getD-drop k s i 0 in
-        rw q at (permitted p (take (width p) (drop k s)) i f (simp (length-take, length-drop) (omega arith)))
-    go false e f n =
-        let m = ltb-false i (width p) e in
-        let q : width p + k + (i - width p) ≡ k + i = omega arith in
-        rw q at n l
+    either-way (ltb i (width p))
+    (λ t.
+    let m = ltb-true i (width p) t in
+    let q : getD (take (width p) (drop k s)) i 0 ≡ getD s (k + i) 0 = getD-take (width p) (drop k s) i 0 m ∙ getD-drop k s i 0 in
+    rw t (rw q at (permitted p (take (width p) (drop k s)) i (e .0) (simp (length-take, length-drop) (omega arith)))))
+    (λ t.
+    let m = ltb-false i (width p) t in
+    let q : width p + k + (i - width p) ≡ k + i = omega arith in
+    rw t (rw q at (shape-admits ps (width p + k) s (i - width p) (e .1) (omega arith))))
 
 -- no byte is admitted by both
 abbrev pub clash : Admitted → Admitted → Bool

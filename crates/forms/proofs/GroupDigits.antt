@@ -1,9 +1,8 @@
 -- The digits of a place in groups are below their base where the place tells a number below its limit: any other digit makes it tell the limit.
-use Rattle.cond.proofs.Kit.{[], _+_, _<_, _∙_, _∷_, _≡_, _≤_, ap, arith, Bool, drop, drop-drop, false, le-leb, leb, length, List, ltb, ltb-true, refl, take, take-take, true, ℕ}
-use Rattle.cond.specs.Pick.{pick}
+use Rattle.cond.proofs.Kit.{[], _+_, _<_, _∙_, _∷_, _≡_, _≤_, ap, arith, Bool, drop, drop-drop, le-leb, leb, length, List, ltb, ltb-true, refl, take, take-take, true, ℕ}
 use Rattle.cond.proofs.Parts.{drop-take}
-use Rattle.cond.proofs.Tests.{both, both-hold}
-use Rattle.spelling.specs.Bytes.{Group, allAre, bitsNumber, digit, digitsBelow, gap, groupsLimit, groupsNumber, groupsWidth}
+use Rattle.cond.proofs.Tests.{both, both-hold, either-way}
+use Rattle.spelling.specs.Bytes.{Group, allAre, bitsNumber, digit, digitsBelow, gap, groupsLimit, groupsWidth}
 use Rattle.spelling.specs.Spelling.{grouped, valueOf}
 use Rattle.spelling.proofs.Spelling.{sized-value}
 use Rattle.forms.proofs.Layouts.{piece-length}
@@ -38,8 +37,6 @@ module _ (s : List ℕ) where
       → n < groupsLimit 10 gs → allAre isDecimal (digitsAt k gs s) ≡ true
   decimal k gs n w e l =
       let x : List ℕ = take (groupsWidth gs) (drop k s) in
-      below-digits k gs (go (digitsBelow 10 gs x) (groupsNumber 10 gs x) (e ∙ sized-value x (grouped 10 gs) (piece-length k s (groupsWidth gs) w)))
-    where
-      go : (b : Bool) (x : ℕ) → n ≡ pick b x (groupsLimit 10 gs) → b ≡ true
-      go true x e = refl
-      go false x e = absurd (omega arith)
+      below-digits k gs
+      (either-way (digitsBelow 10 gs x) (λ q. q)
+      (λ q. absurd (omega (arith, rw q at (e ∙ sized-value x (grouped 10 gs) (piece-length k s (groupsWidth gs) w))))))

@@ -1,7 +1,6 @@
 -- The forms of one length pass the tests: demand 2 and the law of the start byte follow for each by its number.
-use Rattle.cond.proofs.Kit.{[], _&&_, _++_, _<_, _∷_, _≡_, Bool, eqb, false, getD, List, lit≤, refl, set, subst, true, ℕ}
-use Rattle.cond.specs.Pick.{pick}
-use Rattle.cond.proofs.Tests.{both}
+use Rattle.cond.proofs.Kit.{[], _&&_, _++_, _<_, _∷_, _≡_, Bool, eqb, getD, List, lit≤, refl, set, subst, true, ℕ}
+use Rattle.cond.proofs.Tests.{both, either-way}
 use Rattle.spelling.specs.Bytes.{allAre, groupsLimit, groupsWidth, isWord, sameBytes, letters}
 use Rattle.spelling.proofs.Groups.{fullGroups, noDigit}
 use Rattle.spelling.proofs.Words.{allDifferent, allLong}
@@ -41,11 +40,7 @@ unfolding allPass formKindOf
 variant-passes t [] n h = h
 variant-passes t (e ∷ es) n h =
     let a = both (t (e .kind)) (allPass t es) h in
-    go (eqb n (e .number)) (a .0) (variant-passes t es n (a .1))
-  where
-    go : (b : Bool) → t (e .kind) ≡ true → t (formKindOf es n) ≡ true → t (pick b (e .kind) (formKindOf es n)) ≡ true
-    go true p q = p
-    go false p q = q
+    either-way (eqb n (e .number)) (λ q. rw q (a .0)) (λ q. rw q (variant-passes t es n (a .1)))
 
 -- a test of a form, where it has one length
 abbrev passes : (Form → Bool) → FormKind → Bool

@@ -1,8 +1,8 @@
 -- What a layout tells, and what has room in it, stays below the limits of its places.
-use Rattle.cond.proofs.Kit.{[], _+_, _<_, _||_, _∷_, _≡_, ap, Bool, drop, eqb, false, false≢true, List, refl, take, true, ℕ}
+use Rattle.cond.proofs.Kit.{[], _+_, _<_, _||_, _∷_, _≡_, ap, drop, eqb, false, false≢true, List, refl, take, true, ℕ}
 use Rattle.cond.specs.Pick.{pick}
-use Rattle.cond.proofs.Tests.{both, or-left, or-right, other}
-use Rattle.spelling.specs.Spelling.{spell, valueOf}
+use Rattle.cond.proofs.Tests.{both, either-way, or-left, or-right, other}
+use Rattle.spelling.specs.Spelling.{spell}
 use Rattle.spelling.proofs.Spelling.{can-lt, limit, value-lt}
 use Rattle.forms.specs.Places.{Place, Layout, bytesOf, fits, fixed, has, isOf, part, placed, layoutWidth, shape, valueAt, values, width}
 use Rattle.forms.specs.Slots.{Slot, Values, same}
@@ -21,11 +21,7 @@ limitOf (p ∷ ps) f = pick (isOf f p) (placeLimit p) (limitOf ps f)
 place-lt : (p : Place) (x : List ℕ) (f : Slot) (n m : ℕ) → soundPlace p ≡ true → fits p x ≡ true → (isOf f p ≡ false → n < m)
     → pick (isOf f p) (valueAt p x) n < pick (isOf f p) (placeLimit p) m
 place-lt (fixed bs) x f n m o h i = i refl
-place-lt (part c g) x f n m o h i = go (same f g) i
-  where
-    go : (t : Bool) → (t ≡ false → n < m) → pick t (valueOf c x) n < pick t (limit c) m
-    go true i = value-lt x c o h
-    go false i = i refl
+place-lt (part c g) x f n m o h i = either-way (same f g) (λ q. rw q (value-lt x c o h)) (λ q. rw q (i q))
 
 -- what a layout tells stays below the limit
 pub values-lt : (ps : Layout) (k : ℕ) (s : List ℕ) (f : Slot) → soundLayout ps ≡ true → shape ps k s ≡ true → has ps f ≡ true
@@ -41,11 +37,7 @@ values-lt (p ∷ ps) k s f o h i =
 -- what has room stays below the limit
 room-lt : (p : Place) (v : Values) (f : Slot) (m : ℕ) → roomy p v ≡ true → (isOf f p ≡ false → v f < m) → v f < pick (isOf f p) (placeLimit p) m
 room-lt (fixed bs) v f m h i = i refl
-room-lt (part c g) v f m h i = go (same f g) refl i
-  where
-    go : (t : Bool) → same f g ≡ t → (t ≡ false → v f < m) → v f < pick t (limit c) m
-    go true q i = rw (same-slot f g q) (can-lt (v g) c h)
-    go false q i = i refl
+room-lt (part c g) v f m h i = either-way (same f g) (λ q. rw (q, same-slot f g q) (can-lt (v g) c h)) (λ q. rw q (i q))
 
 pub roomy-lt : (ps : Layout) (v : Values) (f : Slot) → roomyLayout ps v ≡ true → has ps f ≡ true → v f < limitOf ps f
 unfolding has limitOf roomyLayout
@@ -72,9 +64,4 @@ layout-alike (p ∷ ps) v w e =
 pub unplaced : (ps : Layout) (k : ℕ) (s : List ℕ) (f : Slot) → (has ps f || eqb (values ps k s f) 0) ≡ true
 unfolding has values
 unplaced [] k s f = refl
-unplaced (p ∷ ps) k s f = go (isOf f p) (unplaced ps (width p + k) s f)
-  where
-    go : (b : Bool) → (has ps f || eqb (values ps (width p + k) s f) 0) ≡ true
-        → ((b || has ps f) || eqb (pick b (valueAt p (take (width p) (drop k s))) (values ps (width p + k) s f)) 0) ≡ true
-    go true h = refl
-    go false h = h
+unplaced (p ∷ ps) k s f = either-way (isOf f p) (λ q. simp q) (λ q. rw q (unplaced ps (width p + k) s f))

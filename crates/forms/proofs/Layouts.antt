@@ -1,7 +1,7 @@
 -- A row of places: what it writes is read back, and what it accepts is written again.
-use Rattle.cond.proofs.Kit.{[], _&&_, _++_, _+_, _||_, _∙_, _∷_, _≡_, _≤_, add-comm, ap, append-assoc, arith, Bool, drop, drop-at, drop-drop, drop-length, false, false≢true, length, length-append, length-drop, length-take-le, List, not, not-true, refl, sym, take, take-append-drop, take-at, true, ℕ}
+use Rattle.cond.proofs.Kit.{[], _&&_, _++_, _+_, _||_, _∙_, _∷_, _≡_, _≤_, add-comm, ap, append-assoc, arith, Bool, drop, drop-at, drop-drop, drop-length, false≢true, length, length-append, length-drop, length-take-le, List, not, not-true, refl, sym, take, take-append-drop, take-at, true, ℕ}
 use Rattle.cond.specs.Pick.{pick}
-use Rattle.cond.proofs.Tests.{both}
+use Rattle.cond.proofs.Tests.{both, either-way}
 use Rattle.spelling.specs.Spelling.{spell, spelledWidth, valueOf}
 use Rattle.spelling.proofs.SameBytes.{same-bytes, same-self}
 use Rattle.spelling.proofs.Spelling.{canSpell, isSound, spell-is, spell-length, spell-value, value-spell}
@@ -49,11 +49,8 @@ shown ps v f = pick (has ps f) (v f) 0
 placed-value : (p : Place) (ps : Layout) (v : Values) (f : Slot) (n : ℕ) → soundPlace p ≡ true → roomy p v ≡ true → n ≡ shown ps v f
     → pick (isOf f p) (valueAt p (placed p v)) n ≡ pick (isOf f p || has ps f) (v f) 0
 placed-value (fixed bs) ps v f n h r e = e
-placed-value (part c g) ps v f n h r e = go (same f g) refl
-  where
-    go : (t : Bool) → same f g ≡ t → pick t (valueOf c (spell c (v g))) n ≡ pick (t || has ps f) (v f) 0
-    go true q = spell-value (v g) c h r ∙ ap v (sym (same-slot f g q))
-    go false q = e
+placed-value (part c g) ps v f n h r e =
+    either-way (same f g) (λ q. rw q (spell-value (v g) c h r ∙ ap v (sym (same-slot f g q)))) (λ q. rw q e)
 
 piece : (front x back s : List ℕ) (k w : ℕ) → length front ≡ k → length x ≡ w → s ≡ front ++ (x ++ back) → take w (drop k s) ≡ x
 piece front x back s k w l m e = ap (λ (t : List ℕ). take w (drop k t)) e ∙ ap (take w) (drop-at front (x ++ back) k l) ∙ take-at x back w m
@@ -102,13 +99,9 @@ module _ (k : ℕ) (s : List ℕ) where
       → (has (p ∷ ps) f ≡ true) × (values (p ∷ ps) k s f ≡ values ps (width p + k) s f)
   unfolding has values
   behind (fixed bs) ps f a h = (h, refl)
-  behind (part c g) ps f a h = go (same f g) refl
-    where
-      go : (t : Bool) → same f g ≡ t
-          → ((t || has ps f) ≡ true)
-          × (pick t (valueOf c (take (spelledWidth c) (drop k s))) (values ps (spelledWidth c + k) s f) ≡ values ps (spelledWidth c + k) s f)
-      go true q = absurd (false≢true (sym (not-true (has ps g) a) ∙ ap (has ps) (sym (same-slot f g q)) ∙ h))
-      go false q = (h, refl)
+  behind (part c g) ps f a h =
+      either-way (same f g) (λ q. absurd (false≢true (sym (not-true (has ps g) a) ∙ ap (has ps) (sym (same-slot f g q)) ∙ h)))
+      (λ q. rw q (h, refl))
 
 -- what a layout accepts, its values spell again
 pub layout-write : (ps : Layout) (k : ℕ) (s : List ℕ) (v : Values) → soundLayout ps ≡ true → roomyLayout ps v ≡ true → apartLayout ps ≡ true → shape ps k s ≡ true

@@ -1,6 +1,6 @@
 -- Variants chosen line by line: a test of every variant holds of every layout so chosen, and a slot that stands in one line alone is
 -- told by the variant chosen there.
-use Rattle.cond.proofs.Kit.{[], _&&_, _++_, _<_, _||_, _∙_, _∷_, _≡_, ap, arith, Bool, false, false≢true, getD, length, List, ltb, ltb-true, not, not-true, refl, suc, sym, true, zero, ℕ}
+use Rattle.cond.proofs.Kit.{[], _&&_, _++_, _<_, _||_, _∙_, _∷_, _≡_, ap, arith, Bool, false, false≢true, getD, length, List, ltb, ltb-true, not, not-true, or-false, refl, suc, sym, true, zero, ℕ}
 use Rattle.cond.proofs.Tests.{both}
 use Rattle.forms.specs.Block.{Line, chosenLayout}
 use Rattle.forms.specs.Places.{Layout, hasWords, has}
@@ -81,10 +81,9 @@ onlyIn (l ∷ ls) (suc i) f = everyVariant (lacks f) l && onlyIn ls i f
 
 pub lacks-layout : (f : Slot) (ls : List Line) (cs : List ℕ) → isChoice ls cs ≡ true → everyLine (everyVariant (lacks f)) ls ≡ true
     → has (chosenLayout ls cs) f ≡ false
-lacks-layout f ls cs o h = not-true (has (chosenLayout ls cs) f) (layout-passes (lacks f) (unfold has in refl) neither ls cs o h)
-  where
-    neither : (a b : Layout) → lacks f a ≡ true → lacks f b ≡ true → lacks f (a ++ b) ≡ true
-    neither a b p q = simp (has-append a b f, not-true (has a f) p, not-true (has b f) q)
+lacks-layout f ls cs o h =
+    not-true (has (chosenLayout ls cs) f)
+    (layout-passes (lacks f) (unfold has in refl) (λ a b p q. simp (has-append a b f, not-true (has a f) p, not-true (has b f) q)) ls cs o h)
 
 pub found-in : (ls : List Line) (cs : List ℕ) → isChoice ls cs ≡ true → (i : ℕ) (f : Slot) → onlyIn ls i f ≡ true
     → has (chosenLayout ls cs) f ≡ has (variantIn ls cs i) f
@@ -93,10 +92,6 @@ found-in [] [] h i f o = refl
 found-in [] (c ∷ cs) h i f o = absurd (false≢true h)
 found-in (l ∷ ls) [] h i f o = absurd (false≢true h)
 found-in (l ∷ ls) (c ∷ cs) h zero f o = simp (has-append (getD l c []) (chosenLayout ls cs) f, lacks-layout f ls cs (choice-head l ls c cs h .1) o, or-false)
-  where
-    or-false : (x : Bool) → (x || false) ≡ x
-    or-false true = refl
-    or-false false = refl
 found-in (l ∷ ls) (c ∷ cs) h (suc i) f o =
     let e = both (everyVariant (lacks f) l) (onlyIn ls i f) o in
     let m = choice-head l ls c cs h in

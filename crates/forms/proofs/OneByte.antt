@@ -1,8 +1,7 @@
 -- One byte replaced by another is refused: over any sound form whose sum runs from its first byte to its own digits.
 use Rattle.cond.proofs.Kit.{[], _&&_, _+_, _<_, _∙_, _∷_, _≡_, _≤_, ap, arith, Bool, drop, drop-set-lt, eqb-true, false, getD, getD-set-same, getD-take, leb, leb-true, length, length-set, length-take-le, List, ltb, ltb-false, ltb-true, refl, set, subst, sym, take, take-set-le, take-set-lt, true, ℕ}
-use Rattle.cond.specs.Pick.{pick}
 use Rattle.cond.proofs.Parts.{drop-take}
-use Rattle.cond.proofs.Tests.{both}
+use Rattle.cond.proofs.Tests.{both, either-way}
 use Rattle.spelling.specs.Bytes.{allAre, xorFrom}
 use Rattle.spelling.proofs.Xor.{one-byte}
 use Rattle.record.specs.declared.Record.{Record}
@@ -33,13 +32,8 @@ unfolding stands values
 values-alike t s u e [] k f h = refl
 values-alike t s u e (p ∷ ps) k f h =
     let a = both (implies (isOf f p) (t k (width p))) (stands t ps (width p + k) f) h in
-    go (isOf f p) (a .0) (values-alike t s u e ps (width p + k) f (a .1))
-  where
-    go : (b : Bool) → implies b (t k (width p)) ≡ true → values ps (width p + k) s f ≡ values ps (width p + k) u f
-        → pick b (valueAt p (take (width p) (drop k s))) (values ps (width p + k) s f)
-        ≡ pick b (valueAt p (take (width p) (drop k u))) (values ps (width p + k) u f)
-    go true i q = ap (valueAt p) (e k (width p) i)
-    go false i q = q
+    either-way (isOf f p) (λ q. rw q (ap (valueAt p) (e k (width p) (rw q at (a .0)))))
+    (λ q. rw q (values-alike t s u e ps (width p + k) f (a .1)))
 
 -- a checksum stands behind the first n bytes, anything else in them
 abbrev pub side : ℕ → Bool → ℕ → ℕ → Bool
@@ -95,28 +89,27 @@ module _ (d : Form) (n : ℕ) (s : List ℕ) (i b : ℕ) (u : sumBehind (d .layo
 
   -- behind it the string is settled
   rest-settled : n ≤ i → set s i b ≡ s
-  rest-settled j = sym (c .own) ∙ layout-alike (d .layout) (valuesBy d (set s i b)) (valuesBy d s) (λ f h. same f (isChecksum f) refl) ∙ a .own
+  rest-settled j = sym (c .own) ∙ layout-alike (d .layout) (valuesBy d (set s i b)) (valuesBy d s) (λ f h. same f) ∙ a .own
     where
       front : (k w : ℕ) → side n false k w ≡ true → take w (drop k (set s i b)) ≡ take w (drop k s)
       front k w h =
           let l = leb-true (k + w) n h in
           sym (drop-take k w (set s i b)) ∙ ap (drop k) (take-set-le (k + w) s i b (omega arith)) ∙ drop-take k w s
 
-      same : (f : Slot) (t : Bool) → isChecksum f ≡ t → valuesBy d (set s i b) f ≡ valuesBy d s f
-      same f true e =
-          listed (λ (g : Slot). valuesBy d (set s i b) g ≡ valuesBy d s g) ofChecksum
-          ((c .total ∙ ap (xorFrom 0) (take-set-le n s i b j) ∙ sym (a .total)) and none) f e
-      same f false e = values-alike (side n false) (set s i b) s front (d .layout) 0 f (checksum-behind (d .layout) n u f false e)
+      same : (f : Slot) → valuesBy d (set s i b) f ≡ valuesBy d s f
+      same f =
+          either-way (isChecksum f)
+          (listed (λ (g : Slot). valuesBy d (set s i b) g ≡ valuesBy d s g) ofChecksum
+          ((c .total ∙ ap (xorFrom 0) (take-set-le n s i b j) ∙ sym (a .total)) and none) f)
+          (λ e. values-alike (side n false) (set s i b) s front (d .layout) 0 f (checksum-behind (d .layout) n u f false e))
 
 -- two accepted strings that differ in one byte at most are the same
 pub one-replaced : (d : Form) → isSoundForm d ≡ true → (n : ℕ) → d .checksums ≡ checksumBy exclusiveOr 0 n ∷ [] → n ≤ d .size → sumBehind (d .layout) n ≡ true
     → (s : List ℕ) (i b : ℕ) (r q : Record) → readBy d s ≡ reading.Read r → i < d .size → readBy d (set s i b) ≡ reading.Read q → b ≡ getD s i 0
 one-replaced d o n m l u s i b r q h g k =
     let f = sound-form d o in
-    go (checked d f n m s r h) (checked d f n m (set s i b) q k) (ltb i n) refl
-  where
-    go : Checked d n s → Checked d n (set s i b) → (z : Bool) → ltb i n ≡ z → b ≡ getD s i 0
-    go a c true z = front-encoded d n s i b u a c l (ltb-true i n z)
-    go a c false z =
-        let long = a .long in
-        sym (getD-set-same s i b 0 (omega arith)) ∙ ap (λ (x : List ℕ). getD x i 0) (rest-settled d n s i b u a c (ltb-false i n z))
+    let a = checked d f n m s r h in
+    let c = checked d f n m (set s i b) q k in
+    let long = a .long in
+    either-way (ltb i n) (λ z. front-encoded d n s i b u a c l (ltb-true i n z))
+    (λ z. sym (getD-set-same s i b 0 (omega arith)) ∙ ap (λ (x : List ℕ). getD x i 0) (rest-settled d n s i b u a c (ltb-false i n z)))

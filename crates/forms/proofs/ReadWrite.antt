@@ -1,6 +1,6 @@
 -- Accepted and written again: over any sound form, the writer takes the record and leaves the same bytes.
-use Rattle.cond.proofs.Kit.{_+_, _∙_, _≡_, ap, arith, Bool, eqb-true, false, getD, length, List, ltb-true, refl, subst, sym, true, ℕ}
-use Rattle.cond.proofs.Tests.{both, both-hold}
+use Rattle.cond.proofs.Kit.{_+_, _∙_, _≡_, ap, arith, eqb-true, false, getD, length, List, ltb-true, refl, subst, sym, true, ℕ}
+use Rattle.cond.proofs.Tests.{both, both-hold, either-way}
 use Rattle.record.specs.Record.{inRange, isGood, zoneAgrees}
 use Rattle.record.specs.declared.Record.{Record}
 use Rattle.record.specs.declared.answer.Reading.the-variants as reading
@@ -111,11 +111,10 @@ module _ (d : Form) (o : SoundForm d) (s : List ℕ) (r : Record) (a : Accepted 
   -- with them the record tells what the string tells
   checked-again : (f : Slot) → has (d .layout) f ≡ true → written d q f ≡ v f
   unfolding v
-  checked-again f h = go (isChecksum f) refl
-    where
-      go : (b : Bool) → isChecksum f ≡ b → written d q f ≡ valuesBy d s f
-      go true e = checksums-again (d .layout) (d .checksums) s (bytesOf (d .layout) (encode q)) v (encode q) (o .checksumsPass) same-checksum (a .checked) f (o .checked f e h)
-      go false e = own-value d o q good-record again f e ∙ sym (encoded f h e)
+  checked-again f h =
+      either-way (isChecksum f)
+      (λ e. checksums-again (d .layout) (d .checksums) s (bytesOf (d .layout) (encode q)) v (encode q) (o .checksumsPass) same-checksum (a .checked) f (o .checked f e h))
+      (λ e. own-value d o q good-record again f e ∙ sym (encoded f h e))
 
   rewritten : Rewritten d s q
   unfolding bytesBy q v

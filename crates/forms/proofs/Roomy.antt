@@ -1,10 +1,9 @@
 -- Values below the bounds, with a word for each, have room in the places of a form.
-use Rattle.cond.proofs.Kit.{[], _<_, _^_, _∙_, _∷_, _≡_, ap, arith, Bool, false, leb-true, List, lit<, lt-ltb, not, not-true, refl, true, ℕ}
-use Rattle.cond.specs.Pick.{pick}
-use Rattle.cond.proofs.Tests.{both, or-left, or-right}
+use Rattle.cond.proofs.Kit.{[], _<_, _^_, _∙_, _∷_, _≡_, ap, arith, false, leb-true, List, lit<, lt-ltb, not, not-true, refl, true, ℕ}
+use Rattle.cond.proofs.Tests.{both, either-way, or-left, or-right}
 use Rattle.spelling.specs.Bytes.{allAre, groupsLimit}
 use Rattle.spelling.specs.Spelling.{bits, digits, grouped, hex, padded, word, words}
-use Rattle.forms.specs.Checksum.{Checksum, Rule, checksumOf, evenOnes, exclusiveOr, withChecksums}
+use Rattle.forms.specs.Checksum.{Checksum, Rule, evenOnes, exclusiveOr, withChecksums}
 use Rattle.forms.specs.Form.{expressTests, isExpressible}
 use Rattle.forms.specs.Places.{Place, Layout, hasWords, fixed, has, isOf, part, hasWord}
 use Rattle.forms.specs.Slots.{Slot, Values, isChecksum, same}
@@ -68,11 +67,7 @@ layout-has-words cs (p ∷ ps) v w t e h =
 pub below-bounds : (cs : List Checksum) (v : Values) (s : List ℕ) → allAre isByte s ≡ true → ((f : Slot) → v f < bound f)
     → (f : Slot) → withChecksums cs s v f < boundIn cs f
 below-bounds [] v s h l f = l f
-below-bounds (c ∷ cs) v s h l f = go (same f (c .slot)) (below-bounds cs v s h l f)
-  where
-    go : (b : Bool) → withChecksums cs s v f < boundIn cs f → pick b (checksumOf c s) (withChecksums cs s v f) < pick b (ruleLimit (c .rule)) (boundIn cs f)
-    go true i = checksum-lt c s h
-    go false i = i
+below-bounds (c ∷ cs) v s h l f = either-way (same f (c .slot)) (λ q. rw q (checksum-lt c s h)) (λ q. rw q (below-bounds cs v s h l f))
 
 positive : (m : Rule) → 0 < ruleLimit m
 positive exclusiveOr = lit< tt
@@ -84,11 +79,8 @@ pub below-limits : (ps : Layout) (cs : List Checksum) (v : Values) → checksums
 below-limits ps [] v o l z f = l f
 below-limits ps (c ∷ cs) v o l z f =
     let a = sound-of ps c cs o in
-    go (same f (c .slot)) refl (a .isOfChecksum) (below-limits ps cs v (a .others) l z f)
-  where
-    go : (b : Bool) → same f (c .slot) ≡ b → isChecksum (c .slot) ≡ true → v f < boundIn cs f → v f < pick b (ruleLimit (c .rule)) (boundIn cs f)
-    go true q e i = omega (arith, positive (c .rule), z f (ap isChecksum (same-slot f (c .slot) q) ∙ e))
-    go false q e i = i
+    either-way (same f (c .slot)) (λ q. rw q (omega (arith, positive (c .rule), z f (ap isChecksum (same-slot f (c .slot) q) ∙ a .isOfChecksum))))
+    (λ q. rw q (below-limits ps cs v (a .others) l z f))
 
 -- what is expressible has a word for each of its values
 pub expressible-has-words : (ps : Layout) (v : Values) → isExpressible ps v ≡ true → hasWords ps v ≡ true

@@ -1,8 +1,8 @@
 -- Reading lines: the layout found in the bytes is a chosen layout, and where no two variants of a line fit the same bytes, a chosen
 -- layout that fits them is the layout found.
-use Rattle.cond.proofs.Kit.{[], _&&_, _++_, _+_, _<_, _∙_, _∷_, _≡_, _≤_, ap, ap₂, arith, Bool, false, false≢true, getD, length, List, lt-ltb, ltb, ltb-true, refl, suc, sym, true, zero, ℕ}
+use Rattle.cond.proofs.Kit.{[], _&&_, _++_, _+_, _<_, _∙_, _∷_, _≡_, _≤_, ap, ap₂, arith, Bool, false≢true, getD, length, List, lt-ltb, ltb, ltb-true, refl, suc, sym, true, zero, ℕ}
 use Rattle.cond.specs.Pick.{pick}
-use Rattle.cond.proofs.Tests.{both, both-hold}
+use Rattle.cond.proofs.Tests.{both, both-hold, either-way}
 use Rattle.forms.specs.Block.{Line, chosenLayout, variantAt, layoutAt}
 use Rattle.forms.specs.Form.{Form}
 use Rattle.forms.specs.Places.{Layout, layoutWidth, shape}
@@ -28,12 +28,7 @@ pub variant-at : (l : Line) (k : ℕ) (s : List ℕ) → variantAt l k s ≡ get
 unfolding variantAt choiceAt
 variant-at [] k s = refl
 variant-at (ps ∷ []) k s = refl
-variant-at (ps ∷ qs ∷ l) k s = go (shape ps k s) (variant-at (qs ∷ l) k s)
-  where
-    go : (t : Bool) → variantAt (qs ∷ l) k s ≡ getD (qs ∷ l) (choiceAt (qs ∷ l) k s) []
-        → pick t ps (variantAt (qs ∷ l) k s) ≡ getD (ps ∷ qs ∷ l) (pick t 0 (suc (choiceAt (qs ∷ l) k s))) []
-    go true e = refl
-    go false e = e
+variant-at (ps ∷ qs ∷ l) k s = either-way (shape ps k s) (λ e. simp e) (λ e. rw e (variant-at (qs ∷ l) k s))
 
 pub layout-at : (ls : List Line) (k : ℕ) (s : List ℕ) → layoutAt ls k s ≡ chosenLayout ls (choicesAt ls k s)
 unfolding layoutAt choicesAt chosenLayout
@@ -47,11 +42,9 @@ pub choice-at : (l : Line) (k : ℕ) (s : List ℕ) → nonempty l ≡ true → 
 unfolding choiceAt
 choice-at [] k s h = ltb-true 0 0 h
 choice-at (ps ∷ []) k s h = omega arith
-choice-at (ps ∷ qs ∷ l) k s h = go (shape ps k s) (choice-at (qs ∷ l) k s (lt-ltb 0 (suc (length l)) (omega arith)))
-  where
-    go : (t : Bool) → choiceAt (qs ∷ l) k s < suc (length l) → pick t 0 (suc (choiceAt (qs ∷ l) k s)) < suc (suc (length l))
-    go true e = omega arith
-    go false e = omega arith
+choice-at (ps ∷ qs ∷ l) k s h =
+    let i = choice-at (qs ∷ l) k s (lt-ltb 0 (suc (length l)) (omega arith)) in
+    either-way (shape ps k s) (λ e. rw e (omega arith)) (λ e. rw e (omega arith))
 
 pub choices-at : (ls : List Line) (k : ℕ) (s : List ℕ) → everyLine nonempty ls ≡ true → isChoice ls (choicesAt ls k s) ≡ true
 unfolding everyLine isChoice choicesAt
@@ -87,12 +80,8 @@ module _ (k : ℕ) (s : List ℕ) where
   variant-found (ps ∷ qs ∷ l) zero d b h m = simp h
   variant-found (ps ∷ qs ∷ l) (suc c) d b h m =
       let e = both (clashesWith ps (qs ∷ l)) (isDistinct (qs ∷ l)) d in
-      go (shape ps k s) refl (other-fits ps (qs ∷ l) c (e .0) (omega arith) h m) (variant-found (qs ∷ l) c (e .1) (omega arith) h m)
-    where
-      go : (t : Bool) → shape ps k s ≡ t → (shape ps k s ≡ true → ⊥) → variantAt (qs ∷ l) k s ≡ getD (qs ∷ l) c []
-          → pick t ps (variantAt (qs ∷ l) k s) ≡ getD (qs ∷ l) c []
-      go true e n i = absurd (n e)
-      go false e n i = i
+      either-way (shape ps k s) (λ t. absurd (other-fits ps (qs ∷ l) c (e .0) (omega arith) h m t))
+      (λ t. rw t (variant-found (qs ∷ l) c (e .1) (omega arith) h m))
 
 pub layout-found : (ls : List Line) (cs : List ℕ) (k : ℕ) (s : List ℕ) → everyLine isDistinct ls ≡ true → isChoice ls cs ≡ true
     → shape (chosenLayout ls cs) k s ≡ true → k + layoutWidth (chosenLayout ls cs) ≤ length s → layoutAt ls k s ≡ chosenLayout ls cs

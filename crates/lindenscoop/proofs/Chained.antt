@@ -1,5 +1,5 @@
 -- The bytes that hold a listener give it back, so that each call goes on where the last one left off.
-use Rattle.cond.proofs.Kit.{[], _++_, _+_, _∙_, _∷_, _≡_, _≤_, ap, append-assoc, arith, drop, getD, getD-append-add, length, length-set, length-take, List, refl, take-at, ℕ}
+use Rattle.cond.proofs.Kit.{_++_, _+_, _∙_, _∷_, _≡_, _≤_, ap, append-assoc, arith, drop, getD, getD-append-add, length, length-set, length-take, List, refl, take-at, ℕ}
 use Rattle.forms.specs.Valid.{lengthOf}
 use Rattle.stream.specs.Machine.{answers}
 use Rattle.stream.proofs.Machine.{same-answers}
@@ -9,11 +9,12 @@ use Rattle.listener.proofs.Starts.{pick-has, start-by}
 use Rattle.listener.specs.Ring.{placeOf}
 use Rattle.lindenscoop.specs.Buffers.{held}
 use Rattle.lindenscoop.specs.Chained.{Chained, answerIn, nextIn}
-use Rattle.lindenscoop.specs.State.{listenerOf, ringSize, stateBytes, stateSize}
+use Rattle.lindenscoop.specs.State.{listenerOf, ringSize, stateBytes, stateSize, versioned}
+use Rattle.lindenscoop.proofs.FormByte.{there-and-back}
 
 module _ (l : Listener) (s : List ℕ) (long : length (l .bytes) ≡ ringSize) where
   abbrev rest : List ℕ
-  rest = l .at ∷ l .kept ∷ l .distance ∷ l .form ∷ drop stateSize s
+  rest = l .at ∷ l .kept ∷ l .distance ∷ versioned (l .form) ∷ drop stateSize s
 
   behind-ring : (i : ℕ) → getD (l .bytes ++ rest) (ringSize + i) 0 ≡ getD rest i 0
   behind-ring i = rw long at (getD-append-add (l .bytes) rest i 0)
@@ -21,8 +22,8 @@ module _ (l : Listener) (s : List ℕ) (long : length (l .bytes) ≡ ringSize) w
   pub held-back : listenerOf (held l s) ≡ l
   unfolding listenerOf stateBytes
   held-back =
-      rw (append-assoc (l .bytes) (l .at ∷ l .kept ∷ l .distance ∷ l .form ∷ []) (drop stateSize s), take-at (l .bytes) rest ringSize long)
-      (rw (behind-ring 0, behind-ring 1, behind-ring 2, behind-ring 3))
+      rw (append-assoc, take-at (l .bytes) rest ringSize long)
+      (rw (behind-ring 0, behind-ring 1, behind-ring 2, behind-ring 3, there-and-back (l .form)))
 
 -- the ring keeps its length
 

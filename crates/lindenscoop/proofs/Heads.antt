@@ -13,7 +13,7 @@ use Rattle.listener.proofs.Steps.{passed}
 use Rattle.lindenscoop.specs.Buffers.{held}
 use Rattle.lindenscoop.specs.Chained.{nextIn}
 use Rattle.lindenscoop.specs.Run.{joined}
-use Rattle.lindenscoop.specs.State.{Small, formIn, listenerOf, numbered, passingIn, ringSize, stateBytes, stateSize}
+use Rattle.lindenscoop.specs.State.{Small, formIn, listenerOf, numbered, passingIn, ringSize, stateBytes, stateSize, versioned}
 use Rattle.lindenscoop.proofs.Chained.{ring-long}
 use Rattle.lindenscoop.proofs.Small.{next-fits, of-bytes}
 
@@ -28,14 +28,14 @@ next o xs n b e h p q =
 
 pub state-laid : (l : Listener) (before : List ℕ) → length (l .bytes) ≡ ringSize → stateSize ≤ length before → {a b c d e : List ℕ}
     → a ≡ stored before 0 (l .bytes) → b ≡ stored a ringSize (l .at ∷ []) → c ≡ stored b (ringSize + 1) (l .kept ∷ [])
-    → d ≡ stored c (ringSize + 2) (l .distance ∷ []) → e ≡ stored d (ringSize + 3) (l .form ∷ []) → e ≡ stateBytes l ++ drop stateSize before
+    → d ≡ stored c (ringSize + 2) (l .distance ∷ []) → e ≡ stored d (ringSize + 3) (versioned (l .form) ∷ []) → e ≡ stateBytes l ++ drop stateSize before
 unfolding stateBytes
 state-laid l before long fits ea eb ec ed ee =
     let whole : length (stateBytes l) ≡ stateSize = rw (length-append, long) in
     let b = next before (l .bytes) ringSize (l .at) long (omega arith) ea eb in
     let c = next before (l .bytes ++ (l .at ∷ [])) (ringSize + 1) (l .kept) (rw (length-append, long)) (omega arith) b ec in
     let d = next before _ (ringSize + 2) (l .distance) (rw (length-append, length-append, long)) (omega arith) c ed in
-    let e = next before _ (ringSize + 3) (l .form) (rw (length-append, length-append, length-append, long)) (omega arith) d ee in
+    let e = next before _ (ringSize + 3) (versioned (l .form)) (rw (length-append, length-append, length-append, long)) (omega arith) d ee in
     rw (append-assoc, append-assoc, append-assoc) at e ∙ stored-in before 0 (stateBytes l) (rw whole fits) ∙ sets-eq (stateBytes l) before 0 (rw whole fits) ∙ rw whole
 
 -- a byte of the ring stored where it stands

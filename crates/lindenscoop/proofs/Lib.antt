@@ -1,3 +1,4 @@
+pub mod FormByte
 pub mod Room
 pub mod Runs
 pub mod Small
@@ -7,3 +8,4 @@ pub mod Heads
 pub mod Used
 pub mod UsedUp
 pub mod Repeated
+pub mod Version

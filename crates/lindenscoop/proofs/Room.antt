@@ -1,5 +1,5 @@
 -- What room there is, and what stands at the head of a buffer that has it.
-use Rattle.cond.proofs.Kit.{_∙_, _≡_, _≤_, ap, Bool, false, leb-true, length, List, not, refl, sym, true, ℕ}
+use Rattle.cond.proofs.Kit.{_∙_, _≡_, _≤_, ap, Bool, false, leb-true, length, List, not, not-false, not-true, sym, true, ℕ}
 use Rattle.cond.proofs.Tests.{both}
 use Rattle.record.specs.declared.Record.{Record}
 use Rattle.record.specs.declared.answer.Writing.{Writing}
@@ -14,15 +14,11 @@ use Rattle.lindenscoop.specs.State.{stateSize}
 
 -- a test in front of a refusal
 
-not-twice : (b : Bool) → not (not b) ≡ b
-not-twice true = refl
-not-twice false = refl
-
 pub short : {b test : Bool} → b ≡ test → not b ≡ true → test ≡ false
-short {b} e h = sym e ∙ sym (not-twice b) ∙ ap not h
+short {b} e h = sym e ∙ not-true b h
 
 pub enough : {b test : Bool} → b ≡ test → not b ≡ false → test ≡ true
-enough {b} e h = sym e ∙ sym (not-twice b) ∙ ap not h
+enough {b} e h = sym e ∙ not-false b h
 
 pub room : (s : List ℕ) → stateFits s ≡ true → stateSize ≤ length s
 room s h = leb-true stateSize (length s) h

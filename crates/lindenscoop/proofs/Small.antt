@@ -12,16 +12,11 @@ use Rattle.listener.proofs.Starts.{pick-has, start-by}
 use Rattle.listener.proofs.Rings.{place-small, place-wrapped}
 use Rattle.lindenscoop.specs.Run.{Run, isAnswer, runOf}
 use Rattle.lindenscoop.specs.State.{Storable, listenerOf, ringSize}
+use Rattle.lindenscoop.proofs.FormByte.{fits-byte}
 
 pub of-bytes : (s : List ℕ) → ((i : ℕ) → Fits w8 (getD s i 0)) → Storable (listenerOf s)
 unfolding listenerOf
-of-bytes s h =
-    record {
-      at-fits = omega (arith, h ringSize);
-      kept-fits = omega (arith, h (ringSize + 1));
-      distance-fits = omega (arith, h (ringSize + 2));
-      form-fits = omega (arith, h (ringSize + 3));
-    }
+of-bytes s h = omega (arith, h ringSize, h (ringSize + 1), h (ringSize + 2), fits-byte _ (h (ringSize + 3) .fits))
 
 near : (n d : ℕ) (a : Answer Record) → distanceAfter n d a ≤ n
 near n d (handed r) = omega arith
@@ -40,7 +35,7 @@ unfolding movedBy
 moved n l b a h c =
     let p = next-place (l .at) in
     let d = near n (l .distance) a in
-    record { at-fits = omega arith; kept-fits = omega arith; distance-fits = omega arith; form-fits = c .form-fits }
+    omega arith
 
 pub next-fits : (l : Listener) (b : ℕ) → Storable l → Storable (nextOf l b)
 unfolding nextOf nextBy
@@ -54,8 +49,4 @@ run-fits (b ∷ s) l c =
     pick-has (λ (r : Run). Storable (r .state)) (isAnswer (answerTo l b)) _ _ (λ e. next) (λ e. run-fits s (nextOf l b) next)
 
 pub start-fits : (form : ℕ) → Storable (startedOf form .listener)
-start-fits form =
-    start-by form Storable (record { at-fits = omega arith; kept-fits = omega arith; distance-fits = omega arith; form-fits = omega arith })
-    (λ e.
-    let n = length-most form in
-    record { at-fits = omega arith; kept-fits = omega arith; distance-fits = omega arith; form-fits = serial-low form e })
+start-fits form = start-by form Storable (omega arith) (λ e. omega (arith, length-most form, serial-low form e))

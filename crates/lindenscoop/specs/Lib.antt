@@ -7,3 +7,4 @@ pub mod Telegrams
 pub mod Chained
 pub mod Repeated
 pub mod Index
+pub mod Version

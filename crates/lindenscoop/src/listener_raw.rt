@@ -72,7 +72,7 @@ pub extern "C" fn lindenscoop_feed_raw(state: &mut [u8], byte: u8, numbers: &mut
         }
         Passing::Other => {}
     }
-    let fed = listener_of(state).feed(byte);
+    let fed = listener_of(state).feed_end(byte);
     let next = fed.next;
     let heard = fed.heard;
     put_state(next, state);

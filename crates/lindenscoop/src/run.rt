@@ -70,7 +70,7 @@ pub(crate) fn feed_until(start: Listener, s: &[u8]) -> Ran
             }
             Passing::Other => {}
         }
-        let fed = joined(bytes, at, kept, distance, form).feed(b);
+        let fed = joined(bytes, at, kept, distance, form).feed_end(b);
         let heard = fed.heard;
         let next = fed.next;
         if is_answer(heard) {

@@ -1,4 +1,5 @@
-// A listener in bytes that the caller owns: the ring, then `at`, `kept`, `distance` and `form`, one byte each.
+// A listener in bytes that the caller owns: the ring, then `at`, `kept`, `distance` and `form`, one byte each, the last with the version of
+// this layout.
 ghost use mathlib.Core.Path.{_≡_};
 ghost use mathlib.Core.List.{[], _∷_, _++_};
 ghost use Prim.Native.Nat.{_≤_};
@@ -18,6 +19,9 @@ const DISTANCE: usize = KEPT + 1;
 const FORM: usize = DISTANCE + 1;
 
 pub(crate) const STATE_BYTES: usize = FORM + 1;
+
+// Version 1, in the high four bits of the form's byte.
+const VERSION: u8 = 16;
 
 fn ring_of(s: &[u8]) -> [u8; AT]
     requires { ⌜ stateSize ≤ length (now s) ⌝ }
@@ -44,6 +48,14 @@ fn wide_form(x: u8) -> u32
     x as u32
 }
 
+// Takes the version out of the form's byte; where it is another one, what is left is no form's number.
+fn form_in(s: &[u8]) -> u32
+    requires { ⌜ stateSize ≤ length (now s) ⌝ }
+    ensures { λ r. ⌜ r ≡ formIn (now (s .entry)) ⌝ }
+{
+    wide_form(s[FORM] ^ VERSION)
+}
+
 pub(crate) fn listener_of(s: &[u8]) -> Listener
     requires { ⌜ stateSize ≤ length (now s) ⌝ }
     ensures { λ l. ⌜ l ≡ listenerOf (now (s .entry)) ⌝ }
@@ -53,7 +65,7 @@ pub(crate) fn listener_of(s: &[u8]) -> Listener
         at: wide(s[AT]),
         kept: wide(s[KEPT]),
         distance: wide(s[DISTANCE]),
-        form: wide_form(s[FORM]),
+        form: form_in(s),
     }
 }
 
@@ -72,7 +84,7 @@ fn put_numbers(out: &mut [u8], at: usize, kept: usize, distance: usize, form: u3
     spelling::put_byte(out, AT, at as u8);
     spelling::put_byte(out, KEPT, kept as u8);
     spelling::put_byte(out, DISTANCE, distance as u8);
-    spelling::put_byte(out, FORM, form as u8);
+    spelling::put_byte(out, FORM, (form as u8) ^ VERSION);
 }
 
 pub(crate) fn put_state(l: Listener, out: &mut [u8])
@@ -89,7 +101,7 @@ pub(crate) fn passing_in(s: &[u8], b: u8) -> Passing
     requires { ⌜ stateSize ≤ length (now s) ⌝ }
     ensures { λ r. ⌜ r ≡ passingIn (now (s .entry)) b ⌝ }
 {
-    let shape = serial::shape_of(wide_form(s[FORM]));
+    let shape = serial::shape_of(form_in(s));
     listener::passing_of(shape, wide(s[AT]), wide(s[KEPT]), wide(s[DISTANCE]), b)
 }
 
@@ -98,7 +110,7 @@ pub(crate) fn move_on(s: &mut [u8], place: usize, at: usize, kept: usize, distan
     requires { ⌜ (stateSize ≤ length (now s)) × Small at kept distance (formIn (now s)) ⌝ }
     ensures { λ _. ⌜ now (s .exit) ≡ numbered at kept distance (formIn (now (s .entry))) (stored (now (s .entry)) place (b ∷ [])) ⌝ }
 {
-    let form = wide_form(s[FORM]);
+    let form = form_in(s);
     spelling::put_byte(s, place, b);
     put_numbers(s, at, kept, distance, form);
 }

@@ -1,23 +1,15 @@
 -- A ring as a list, oldest byte first: a byte stored at the oldest place becomes the newest.
-use Rattle.cond.proofs.Kit.{[], _++_, _+_, _-_, _<_, _∙_, _∷_, _≡_, _≤_, add-one, ap, append-assoc, append-nil, arith, Bool, drop, drop-append-le, drop-drop, drop-of-length-le, drop-set-lt, ext-getD, false, getD, getD-append-add, getD-drop, getD-take, le-ltb, length, length-append, length-drop, length-take, List, List·getD-append, lt-ltb, ltb, ltb-false, ltb-true, refl, set, set-split, suc, sym, take, take-append-le, take-suc, take-suc-set, true, ℕ}
-use Rattle.cond.specs.Pick.{pick}
+use Rattle.cond.proofs.Kit.{[], _++_, _+_, _-_, _<_, _∙_, _∷_, _≡_, _≤_, add-one, ap, append-assoc, append-nil, arith, drop, drop-append-le, drop-drop, drop-of-length-le, drop-set-lt, ext-getD, getD, getD-append-add, getD-drop, getD-take, le-ltb, length, length-append, length-drop, length-take, List, List·getD-append, lt-ltb, ltb, ltb-false, ltb-true, set, set-split, suc, sym, take, take-append-le, take-suc, take-suc-set, ℕ}
+use Rattle.cond.proofs.Tests.{either-way}
 use Rattle.stream.specs.Window.{lastOf}
 use Rattle.serial.specs.Shape.{longest}
 use Rattle.listener.specs.Ring.{oldestFirst, placeOf, wrapped}
 
 pub place-small : (at : ℕ) → placeOf at < longest
-place-small at = go (ltb at longest) refl
-  where
-    go : (t : Bool) → ltb at longest ≡ t → pick t at 0 < longest
-    go true e = ltb-true at longest e
-    go false e = omega arith
+place-small at = either-way (ltb at longest) (λ e. rw e (ltb-true at longest e)) (λ e. rw e (omega arith))
 
 pub wrapped-small : (k : ℕ) → k < longest + longest → wrapped k < longest
-wrapped-small k h = go (ltb k longest) refl
-  where
-    go : (t : Bool) → ltb k longest ≡ t → pick t k (k - longest) < longest
-    go true e = ltb-true k longest e
-    go false e = omega arith
+wrapped-small k h = either-way (ltb k longest) (λ e. rw e (ltb-true k longest e)) (λ e. rw e (omega arith))
 
 pub place-wrapped : (k : ℕ) → k < longest + longest → placeOf (wrapped k) ≡ wrapped k
 place-wrapped k h = rw (lt-ltb (wrapped k) longest (wrapped-small k h))
@@ -29,49 +21,39 @@ module _ (y : List ℕ) (at : ℕ) (h : at < longest) (size : length y ≡ longe
 
   pub ring-byte : (i : ℕ) → i < longest → getD (oldestFirst at y) i 0 ≡ getD y (wrapped (at + i)) 0
   unfolding oldestFirst
-  ring-byte i l = go (ltb (at + i) longest) refl
-    where
-      front : length (drop at y) ≡ longest - at
-      front = rw length-drop (omega arith)
-
-      go : (t : Bool) → ltb (at + i) longest ≡ t → getD (drop at y ++ take at y) i 0 ≡ getD y (pick t (at + i) (at + i - longest)) 0
-      go true e =
-          let m : at + i < longest = ltb-true _ _ e in
-          let k : i < length (drop at y) = omega (arith, front) in
-          rw (List·getD-append (drop at y) (take at y) 0 i k, getD-drop)
-      go false e =
-          let m : longest ≤ at + i = ltb-false _ _ e in
-          let k : i ≡ length (drop at y) + (at + i - longest) = omega (arith, front) in
-          let j : at + i - longest < at = omega arith in
-          ap (λ (q : ℕ). getD (drop at y ++ take at y) q 0) k ∙ getD-append-add (drop at y) (take at y) (at + i - longest) 0
-          ∙ getD-take at y (at + i - longest) 0 j
+  ring-byte i l =
+      let front : length (drop at y) ≡ longest - at = rw length-drop (omega arith) in
+      either-way (ltb (at + i) longest)
+      (λ e.
+      let m : at + i < longest = ltb-true _ _ e in
+      let k : i < length (drop at y) = omega arith in
+      rw (e, List·getD-append (drop at y) (take at y) 0 i k, getD-drop))
+      (λ e.
+      let m : longest ≤ at + i = ltb-false _ _ e in
+      let k : i ≡ length (drop at y) + (at + i - longest) = omega arith in
+      let j : at + i - longest < at = omega arith in
+      rw e
+      (ap (λ (q : ℕ). getD (drop at y ++ take at y) q 0) k ∙ getD-append-add (drop at y) (take at y) (at + i - longest) 0
+      ∙ getD-take at y (at + i - longest) 0 j))
 
   pub ring-set : (b : ℕ) → oldestFirst (wrapped (at + 1)) (set y at b) ≡ drop 1 (oldestFirst at y ++ (b ∷ []))
   unfolding oldestFirst
-  ring-set b = go (ltb (at + 1) longest) refl ∙ sym (drop-append-le 1 (drop at y ++ take at y) (b ∷ []) all)
-    where
-      l : at < length y
-      l = omega arith
-
-      one : 1 ≤ length (drop at y)
-      one = rw length-drop (omega arith)
-
-      all : 1 ≤ length (drop at y ++ take at y)
-      all = rw (length-append, length-drop, length-take) (omega arith)
-
-      go : (t : Bool) → ltb (at + 1) longest ≡ t
-          → drop (pick t (at + 1) (at + 1 - longest)) (set y at b) ++ take (pick t (at + 1) (at + 1 - longest)) (set y at b)
-          ≡ drop 1 (drop at y ++ take at y) ++ (b ∷ [])
-      go true e =
-          let s : at < at + 1 = omega arith in
-          rw (drop-append-le 1 (drop at y) (take at y) one, drop-drop 1 at y, drop-set-lt (at + 1) y at b s, append-assoc)
-          (ap (λ (k : List ℕ). drop (at + 1) y ++ k) (rw add-one (take-suc-set y at b l)))
-      go false e =
-          let m : longest ≤ at + 1 = ltb-false _ _ e in
-          let z : at + 1 - longest ≡ 0 = omega arith in
-          let n : length y ≤ at + 1 = omega arith in
-          let n2 : length y ≤ suc at = omega arith in
-          rw (drop-append-le 1 (drop at y) (take at y) one, drop-drop 1 at y, drop-of-length-le y n, z, append-nil, set-split y at b l, drop-of-length-le y n2)
+  ring-set b =
+      let l : at < length y = omega arith in
+      let one : 1 ≤ length (drop at y) = rw length-drop (omega arith) in
+      let all : 1 ≤ length (drop at y ++ take at y) = rw (length-append, length-drop, length-take) (omega arith) in
+      either-way (ltb (at + 1) longest)
+      (λ e.
+      let s : at < at + 1 = omega arith in
+      rw (e, drop-append-le 1 (drop at y) (take at y) one, drop-drop 1 at y, drop-set-lt (at + 1) y at b s, append-assoc)
+      (ap (λ (k : List ℕ). drop (at + 1) y ++ k) (rw add-one (take-suc-set y at b l))))
+      (λ e.
+      let m : longest ≤ at + 1 = ltb-false _ _ e in
+      let z : at + 1 - longest ≡ 0 = omega arith in
+      let n : length y ≤ at + 1 = omega arith in
+      let n2 : length y ≤ suc at = omega arith in
+      rw (e, drop-append-le 1 (drop at y) (take at y) one, drop-drop 1 at y, drop-of-length-le y n, z, append-nil, set-split y at b l, drop-of-length-le y n2))
+      ∙ sym (drop-append-le 1 (drop at y ++ take at y) (b ∷ []) all)
 
   -- one byte more in a layout
   pub one-more : (z : List ℕ) (i j : ℕ) → i < longest → length z ≡ longest → j ≡ wrapped (at + i) → take i z ≡ take i (oldestFirst at y)
@@ -95,16 +77,14 @@ module _ (y : List ℕ) (at : ℕ) (h : at < longest) (size : length y ≡ longe
       turned low = ring-length y (wrapped (at + (longest - n))) (wrapped-small (at + (longest - n)) low) size
 
       twice : (i : ℕ) → i < n → wrapped (wrapped (at + (longest - n)) + i) ≡ wrapped (at + (longest - n + i))
-      twice i q = go (ltb (at + (longest - n)) longest) refl
-        where
-          go : (t : Bool) → ltb (at + (longest - n)) longest ≡ t
-              → wrapped (pick t (at + (longest - n)) (at + (longest - n) - longest) + i) ≡ wrapped (at + (longest - n + i))
-          go true e = let k : at + (longest - n) + i ≡ at + (longest - n + i) = omega arith in rw k
-          go false e =
-              let f = ltb-false (at + (longest - n)) longest e in
-              let a : at + (longest - n) - longest + i < longest = omega arith in
-              let b : longest ≤ at + (longest - n + i) = omega arith in
-              rw (lt-ltb _ longest a, le-ltb _ longest b) (omega arith)
+      twice i q =
+          either-way (ltb (at + (longest - n)) longest)
+          (λ e. let k : at + (longest - n) + i ≡ at + (longest - n + i) = omega arith in rw (e, k))
+          (λ e.
+          let f = ltb-false (at + (longest - n)) longest e in
+          let a : at + (longest - n) - longest + i < longest = omega arith in
+          let b : longest ≤ at + (longest - n + i) = omega arith in
+          rw (e, lt-ltb _ longest a, le-ltb _ longest b) (omega arith))
 
       byte : at + (longest - n) < longest + longest → (i : ℕ) → i < n
           → getD (take n (oldestFirst (wrapped (at + (longest - n))) y)) i 0 ≡ getD (drop (length (oldestFirst at y) - n) (oldestFirst at y)) i 0

@@ -1,6 +1,7 @@
 -- A listener starts fresh for a serial form; for any other the start is refused with 1.
 use Rattle.cond.proofs.Kit.{_≡_, arith, Bool, false, refl, true, ℕ}
 use Rattle.cond.specs.Pick.{pick}
+use Rattle.cond.proofs.Tests.{either-way}
 use Rattle.forms.specs.Forms.{isSerial}
 use Rattle.forms.specs.Valid.{lengthOf}
 use Rattle.listener.specs.Listening.{silent, startNumber, startedOf}
@@ -31,8 +32,4 @@ module _ (form : ℕ) where
   start-unknown e = rw e
 
   pub refused-form : startNumber (startedOf form .answer) ≡ 1 → isSerial form ≡ false
-  refused-form h = go (isSerial form) refl
-    where
-      go : (t : Bool) → isSerial form ≡ t → isSerial form ≡ false
-      go true e = let k = start-known e in absurd (omega arith)
-      go false e = e
+  refused-form h = either-way (isSerial form) (λ e. let k = start-known e in absurd (omega arith)) (λ e. e)

@@ -1,6 +1,6 @@
 -- A state of the ring is a state of the stream: a byte stored in the ring moves it on as the step over the kept bytes does.
-use Rattle.cond.proofs.Kit.{[], _++_, _+_, _-_, _<_, _||_, _∙_, _∷_, _≡_, _≤_, ap, arith, Bool, drop, drop-append-le, drop-drop, eq-eqb, eqb, eqb-false, eqb-true, false, false≢true, getD, getD-at, getD-drop, le-leb, le-ltb, leb, leb-true, length, length-append, length-drop, length-set, List, lt-leb, lt-ltb, ltb, ltb-true, min, none, not, refl, set, subst, sym, true, ℕ}
-use Rattle.cond.proofs.Tests.{both}
+use Rattle.cond.proofs.Kit.{[], _++_, _+_, _-_, _<_, _||_, _∙_, _∷_, _≡_, _≤_, ap, arith, Bool, drop, drop-append-le, drop-drop, eq-eqb, eqb, eqb-false, eqb-true, false, false≢true, getD, getD-at, getD-drop, le-leb, le-ltb, leb-true, length, length-append, length-drop, length-set, List, lt-leb, lt-ltb, ltb, ltb-true, min, none, not, refl, set, subst, sym, true, ℕ}
+use Rattle.cond.proofs.Tests.{both, either-way}
 use Rattle.cond.specs.Pick.{pick}
 use Rattle.record.specs.declared.answer.Reading.{Reading}
 use Rattle.record.specs.declared.answer.Reading.the-variants as reading
@@ -87,16 +87,14 @@ module _ (l : Listener) (b n : ℕ) (sized : length (l .bytes) ≡ longest) (sma
       → pick (eqb (l .kept + 1) n) (validOf f (lastOf n next)) none
       ≡ hit n (validOf f) (stateOf l .kept) b
   unfolding hit
-  hit-ring f = rw kept-length (go (eqb (l .kept + 1) n) refl)
-    where
-      go : (t : Bool) → eqb (l .kept + 1) n ≡ t
-          → pick t (validOf f (lastOf n next)) none
-          ≡ pick (leb n (l .kept + 1)) (validOf f (lastOf n (stateOf l .kept ++ (b ∷ [])))) none
-      go true e =
-          let full = eqb-true (l .kept + 1) n e in
-          let k : longest + 1 - n ≡ longest - l .kept + (l .kept + 1 - n) = omega arith in
-          rw (le-leb n (l .kept + 1) (omega arith), last-turned n most, last-longer n, k)
-      go false e = let more = eqb-false (l .kept + 1) n e in rw (lt-leb n (l .kept + 1) (omega arith))
+  hit-ring f =
+      rw kept-length
+      (either-way (eqb (l .kept + 1) n)
+      (λ e.
+      let full = eqb-true (l .kept + 1) n e in
+      let k : longest + 1 - n ≡ longest - l .kept + (l .kept + 1 - n) = omega arith in
+      rw (e, le-leb n (l .kept + 1) (omega arith), last-turned n most, last-longer n, k))
+      (λ e. let more = eqb-false (l .kept + 1) n e in rw (e, lt-leb n (l .kept + 1) (omega arith))))
 
   pub kept-ring : lastOf (min (l .kept + 1) (n - 1)) next ≡ keptAfter (n - 1) (stateOf l .kept) b
   unfolding keptAfter
@@ -147,12 +145,16 @@ module _ (l : Listener) (b n : ℕ) (is : n ≡ lengthOf (l .form)) where
 -- a byte that is not the form's last one moves the ring on, and nothing is handed out
 
 -- the form stays
+
+pub next-form : (l : Listener) (b : ℕ) → nextOf l b .form ≡ l .form
+unfolding nextOf nextBy movedBy
+next-form l b = pick-has (λ (x : Listener). x .form ≡ l .form) (isBad (lengthOf (l .form)) l) _ _ (λ e. refl) (λ e. refl)
+
 pub same-form : {l : Listener} {b : ℕ} {f : Fed} → FedBy l b f
     → f .next ≡ record { bytes = f .next .bytes; at = f .next .at; kept = f .next .kept; distance = f .next .distance; form = l .form }
-unfolding nextOf nextBy movedBy
 same-form {l} {b} {f} fed =
-    let kept = pick-has (λ (x : Listener). x .form ≡ l .form) (isBad (lengthOf (l .form)) l) _ _ (λ e. refl) (λ e. refl) in
-    ap (λ x. record { bytes = f .next .bytes; at = f .next .at; kept = f .next .kept; distance = f .next .distance; form = x }) (ap Listener.form (fed .next) ∙ kept)
+    ap (λ x. record { bytes = f .next .bytes; at = f .next .at; kept = f .next .kept; distance = f .next .distance; form = x })
+    (ap Listener.form (fed .next) ∙ next-form l b)
 
 module _ (l : Listener) (b : ℕ) (sized : length (l .bytes) ≡ longest) where
   abbrev stored : ℕ → ℕ → ℕ → ℕ → Listener

@@ -172,7 +172,31 @@ impl Listener {
         }
     }
 
+    // A byte that ends no string is dismissed before the ring is handed on.
     pub fn feed(self, b: u8) -> Fed
+        ensures { λ r. ⌜ FedBy self b r ⌝ }
+    {
+        let shape = serial::shape_of(self.form);
+        match passing_of(shape, self.at, self.kept, self.distance, b) {
+            Passing::Passed(place, at, kept, distance) => {
+                let before = self.bytes;
+                Fed {
+                    next: Listener {
+                        bytes: ring::with_byte(before, place, b),
+                        at,
+                        kept,
+                        distance,
+                        form: self.form,
+                    },
+                    heard: Heard::Nothing,
+                }
+            }
+            Passing::Other => self.feed_end(b),
+        }
+    }
+
+    // The same for who has dismissed such bytes: what stores them in place need not ask again.
+    pub fn feed_end(self, b: u8) -> Fed
         ensures { λ r. ⌜ FedBy self b r ⌝ }
     {
         let form = self.form;

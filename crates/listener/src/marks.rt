@@ -55,7 +55,7 @@ fn mark_each(l: Listener, s: &[u8], marks: &mut [u8])
             distance,
             form,
         };
-        let fed = listener.feed(b);
+        let fed = listener.feed_end(b);
         let heard = fed.heard;
         marks[i] = mark_of(heard);
         let next = fed.next;

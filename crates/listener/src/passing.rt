@@ -1,6 +1,6 @@
 // A byte that ends no string, as most do.
 ghost use mathlib.Core.Path.{_≡_};
-ghost use Rattle.listener.specs.Passing.{passes, passingOf};
+ghost use Rattle.listener.specs.Passing.{passingOf};
 use crate::buffered_after;
 use crate::one_more;
 use crate::ring;
@@ -12,19 +12,17 @@ pub enum Passing {
     Other,
 }
 
-// No state that refusal 11 names, and not the byte that the form's strings end with.
-fn passes(shape: Shape, kept: usize, distance: usize, b: u8) -> bool
-    ensures { λ r. ⌜ r ≡ passes shape kept distance b ⌝ }
-{
-    (kept < shape.length) & ((distance <= shape.length) & (!(b == shape.end)))
-}
-
 // Who holds the ring in place stores such a byte there: `feed` takes the state and hands back the next one, which copies the ring.
+// The last byte is tested first, by itself, which is a little quicker in the loops that are handed pieces.
 pub fn passing_of(shape: Shape, at: usize, kept: usize, distance: usize, b: u8) -> Passing
     ensures { λ r. ⌜ r ≡ passingOf shape at kept distance b ⌝ }
 {
     let n = shape.length;
-    if passes(shape, kept, distance, b) {
+    if b == shape.end {
+        return Passing::Other;
+    }
+    // No state that refusal 11 names.
+    if (kept < n) & (distance <= n) {
         let place = ring::place(at);
         let next_at = ring::wrap(place + 1);
         return Passing::Passed(

@@ -1,7 +1,6 @@
 -- A place of one byte: the byte, one of a list of letters, and what the letters tell.
 use Rattle.cond.proofs.Kit.{[], _&&_, _<_, _∙_, _∷_, _≡_, _≤_, and-true, ap, arith, Bool, drop, drop-cons, drop-of-length-le, eq-eqb, eqb, eqb-false, eqb-true, false, getD, length, List, ne-eqb, not, not-true, refl, suc, sym, take, true, zero, ℕ}
-use Rattle.cond.specs.Pick.{pick}
-use Rattle.cond.proofs.Tests.{both}
+use Rattle.cond.proofs.Tests.{both, either-way}
 use Rattle.spelling.specs.Bytes.{isWord, letters, sameBytes, wordPlace}
 use Rattle.spelling.specs.Spelling.{isSpelled, valueOf, words}
 use Rattle.spelling.proofs.Spelling.{sized-is, sized-value}
@@ -25,28 +24,22 @@ none-at a (b ∷ bs) zero h l = not-true (eqb a b) (both (not (eqb a b)) _ h .0)
 none-at a (b ∷ bs) (suc i) h l = none-at a bs i (both (not (eqb a b)) _ h .1) (omega arith)
 
 next : (m n : ℕ) → eqb (suc m) (suc n) ≡ eqb m n
-next m n = go (eqb m n) refl
-  where
-    go : (t : Bool) → eqb m n ≡ t → eqb (suc m) (suc n) ≡ t
-    go true e = eq-eqb (suc m) (suc n) (ap suc (eqb-true m n e))
-    go false e = ne-eqb (suc m) (suc n) (λ q. eqb-false m n e (omega arith))
+next m n =
+    either-way (eqb m n) (λ e. eq-eqb (suc m) (suc n) (ap suc (eqb-true m n e)) ∙ sym e)
+    (λ e. ne-eqb (suc m) (suc n) (λ q. eqb-false m n e (omega arith)) ∙ sym e)
 
 index : (x : ℕ) (ls : List ℕ) (i : ℕ) → differ ls ≡ true → i < length ls → eqb (wordPlace (letters ls) (x ∷ [])) i ≡ eqb x (getD ls i 0)
 unfolding letters wordPlace sameBytes
 index x [] i d l = absurd (omega (arith, l))
-index x (a ∷ bs) zero d l = go (eqb x a)
-  where
-    go : (t : Bool) → eqb (pick (t && true) 0 (suc (wordPlace (letters bs) (x ∷ [])))) 0 ≡ t
-    go true = refl
-    go false = ne-eqb (suc (wordPlace (letters bs) (x ∷ []))) 0 (λ e. omega arith)
+index x (a ∷ bs) zero d l =
+    either-way (eqb x a) (λ e. simp e) (λ e. simp e (ne-eqb (suc (wordPlace (letters bs) (x ∷ []))) 0 (λ e. omega arith)))
 index x (a ∷ bs) (suc i) d l =
     let b = both (isNone a bs) (differ bs) d in
-    go (eqb x a) refl (index x bs i (b .1) (omega arith)) (none-at a bs i (b .0) (omega arith))
-  where
-    go : (t : Bool) → eqb x a ≡ t → eqb (wordPlace (letters bs) (x ∷ [])) i ≡ eqb x (getD bs i 0) → eqb a (getD bs i 0) ≡ false
-        → eqb (pick (t && true) 0 (suc (wordPlace (letters bs) (x ∷ [])))) (suc i) ≡ eqb x (getD bs i 0)
-    go true e h n = ne-eqb 0 (suc i) (λ q. omega arith) ∙ sym (ap (λ (y : ℕ). eqb y (getD bs i 0)) (eqb-true x a e) ∙ n)
-    go false e h n = next (wordPlace (letters bs) (x ∷ [])) i ∙ h
+    either-way (eqb x a)
+    (λ e.
+    simp e
+    (ne-eqb 0 (suc i) (λ q. omega arith) ∙ sym (ap (λ (y : ℕ). eqb y (getD bs i 0)) (eqb-true x a e) ∙ none-at a bs i (b .0) (omega arith))))
+    (λ e. simp e (next (wordPlace (letters bs) (x ∷ [])) i ∙ index x bs i (b .1) (omega arith)))
 
 -- a letter by its number
 pub letters-at : (ls : List ℕ) (n : ℕ) → n < length ls → getD (letters ls) n [] ≡ getD ls n 0 ∷ []
@@ -97,17 +90,9 @@ module _ (s : List ℕ) (at : ℕ) (h : at < length s) where
   -- the first letter means no
   pub flag-letter : (a b : ℕ) → yesNo (valueOf (words 1 (letters (a ∷ b ∷ []))) (take 1 (drop at s))) ≡ flagOf (eqb (getD s at 0) a)
   unfolding letters wordPlace
-  flag-letter a b = rw (letter-value (a ∷ b ∷ []), same-byte a) (go (eqb (getD s at 0) a) _)
-    where
-      go : (t : Bool) (n : ℕ) → yesNo (pick t 0 (suc n)) ≡ flagOf t
-      go true n = refl
-      go false n = refl
+  flag-letter a b = rw (letter-value (a ∷ b ∷ []), same-byte a) (either-way (eqb (getD s at 0) a) (λ e. simp e) (λ e. simp e))
 
   -- the first letter is the sign of numbers from zero on
   pub sign-letter : (a b : ℕ) → negative (valueOf (words 1 (letters (a ∷ b ∷ []))) (take 1 (drop at s))) ≡ not (eqb (getD s at 0) a)
   unfolding letters wordPlace
-  sign-letter a b = rw (letter-value (a ∷ b ∷ []), same-byte a) (go (eqb (getD s at 0) a) _)
-    where
-      go : (t : Bool) (n : ℕ) → negative (pick t 0 (suc n)) ≡ not t
-      go true n = refl
-      go false n = refl
+  sign-letter a b = rw (letter-value (a ∷ b ∷ []), same-byte a) (either-way (eqb (getD s at 0) a) (λ e. simp e) (λ e. simp e))

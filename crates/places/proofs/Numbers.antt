@@ -1,6 +1,7 @@
 -- The number of up to m bytes is what the place tells, and 0 where the part has another width.
-use Rattle.cond.proofs.Kit.{_≡_, Bool, false, leb, length, List, ne-eqb, refl, true, ℕ}
+use Rattle.cond.proofs.Kit.{_≡_, leb, length, List, ne-eqb, ℕ}
 use Rattle.cond.specs.Pick.{pick}
+use Rattle.cond.proofs.Tests.{either-way}
 use Rattle.spelling.specs.Spelling.{Spelling, numberBy, spelledWidth, valueOf}
 use Rattle.spelling.specs.Stored.{upTo}
 use Rattle.spelling.proofs.Spelling.{sized-value}
@@ -8,11 +9,7 @@ use Rattle.spelling.proofs.Spelling.{sized-value}
 module _ (c : Spelling) (m : ℕ) (x : List ℕ) where
   pub wrong-width : (length x ≡ spelledWidth c → ⊥) → 0 ≡ pick (leb (spelledWidth c) m) (valueOf c x) 0
   unfolding valueOf
-  wrong-width h = rw (ne-eqb (length x) (spelledWidth c) h) (go (leb (spelledWidth c) m))
-    where
-      go : (t : Bool) → _≡_ {A = ℕ} 0 (pick t 0 0)
-      go true = refl
-      go false = refl
+  wrong-width h = rw (ne-eqb (length x) (spelledWidth c) h) (either-way (leb (spelledWidth c) m) (λ e. simp e) (λ e. simp e))
 
   pub right-width : length x ≡ spelledWidth c → upTo m x (numberBy c x) ≡ pick (leb (spelledWidth c) m) (valueOf c x) 0
   unfolding upTo

@@ -2,6 +2,7 @@
 -- it has a place for it.
 use Rattle.cond.proofs.Kit.{[], _&&_, _+_, _||_, _∙_, _∷_, _≡_, and-true, ap, Bool, eqb, eqb-true, false, false≢true, length, List, not, not-false, not-true, refl, sym, true, ℕ}
 use Rattle.cond.specs.Pick.{pick}
+use Rattle.cond.proofs.Tests.{either-way}
 use Rattle.calendar.specs.Calendar.{isDate, weekdayOf}
 use Rattle.record.specs.declared.Date.the-variants as dateIs
 use Rattle.record.specs.declared.Flag.the-variants as flagIs
@@ -14,12 +15,12 @@ use Rattle.forms.specs.Checksum.{checksumsHold}
 use Rattle.forms.specs.Fields.Date.{decodeDate, fullDate, hasDate, weekdayInRange, weekdayConsistent}
 use Rattle.forms.specs.Fields.Fraction.{noFraction}
 use Rattle.forms.specs.Fields.Offset.{noOffset}
-use Rattle.forms.specs.Fields.Flag.{firstOfTwo, decodeFlag, noFlag, ownLetter, secondOfTwo}
+use Rattle.forms.specs.Fields.Flag.{decodeFlag}
 use Rattle.forms.specs.Fields.Sign.{signConsistent}
 use Rattle.forms.specs.Fields.Time.{leapConsistent, secondsConsistent}
 use Rattle.forms.specs.Form.{Form, carries, validated, numbersInRange, ranges, readBy, signsConsistent, consistent, valuesBy}
 use Rattle.forms.specs.Places.{Layout, has, isOf, shape, values, width}
-use Rattle.forms.specs.Slots.{Slot, Values, day, daySeconds, deletion, leapSecond, minus, month, offsetMinutes, quality, same, south, summer, utc, weekday, west, year, zone}
+use Rattle.forms.specs.Slots.{Slot, Values, day, daySeconds, deletion, leapSecond, minus, month, offsetMinutes, quality, same, south, utc, weekday, west, year, zone}
 use Rattle.forms.specs.Decode.{decode, decodeChannel, decodeFraction, decodeOffset, decodePosition}
 use Rattle.forms.proofs.Accepted.{read-validated}
 use Rattle.forms.proofs.Slots.{every, every-slot, slots}
@@ -32,12 +33,8 @@ use Rattle.places.proofs.Weekday.{date-exists}
 nowhere : (ps : Layout) (k : ℕ) (s : List ℕ) (f : Slot) → has ps f ≡ false → values ps k s f ≡ 0
 unfolding has values
 nowhere [] k s f h = refl
-nowhere (p ∷ ps) k s f h = go (isOf f p) _ h (nowhere ps (width p + k) s f)
-  where
-    go : (t : Bool) (x : ℕ) → (t || has ps f) ≡ false → (has ps f ≡ false → values ps (width p + k) s f ≡ 0)
-        → pick t x (values ps (width p + k) s f) ≡ 0
-    go true x e n = absurd (false≢true (sym e))
-    go false x e n = n e
+nowhere (p ∷ ps) k s f h =
+    either-way (isOf f p) (λ e. absurd (false≢true (sym (rw e at h)))) (λ e. rw e (nowhere ps (width p + k) s f (rw e at h)))
 
 -- what a layout can tell beside its record and the weekday, and utc by a letter of its own
 abbrev beside : List Slot
@@ -53,23 +50,18 @@ isLean ps = every slots (λ f. not (among beside f && has ps f))
 
 -- one letter never tells both fields
 never-both : (z : ℕ) → not (isYes (pick (eqb z 2) flagIs.Yes flagIs.No) && isYes (pick (eqb z 1) flagIs.Yes flagIs.No)) ≡ true
-never-both z = go (eqb z 2) refl
-  where
-    go : (t : Bool) → eqb z 2 ≡ t → not (isYes (pick t flagIs.Yes flagIs.No) && isYes (pick (eqb z 1) flagIs.Yes flagIs.No)) ≡ true
-    go true e = rw (eqb-true z 2 e) refl
-    go false e = refl
+never-both z = either-way (eqb z 2) (λ e. rw (eqb-true z 2 e)) (λ e. simp e)
 
 -- a date in range exists, so that it falls on a weekday where its weekday is that one
 on-date : (r : Record) (y m d n : ℕ) (x t : Bool) → r .date ≡ dateIs.Full y m d
     → verdict (inRange r && x) (eqb n (weekdayOf y m d) && t) r ≡ verdict (inRange r && x) (fallsOn (r .date) n && t) r
 unfolding verdict
-on-date r y m d n x t e = go (inRange r) refl
-  where
-    go : (i : Bool) → inRange r ≡ i → verdict (i && x) (eqb n (weekdayOf y m d) && t) r ≡ verdict (i && x) (fallsOn (r .date) n && t) r
-    go false q = refl
-    go true q =
-        let there : isDate y m d ≡ true = sym (ap exists e) ∙ date-exists r (ap (hasDate fullDate) e) q in
-        simp (e, there)
+on-date r y m d n x t e =
+    either-way (inRange r)
+    (λ q.
+    let there : isDate y m d ≡ true = sym (ap exists e) ∙ date-exists r (ap (hasDate fullDate) e) q in
+    simp (e, there))
+    (λ q. simp q)
 
 module _ (d : Form) (s : List ℕ) where
   abbrev v : Values
@@ -84,13 +76,7 @@ module _ (d : Form) (s : List ℕ) where
 
   pub zone-agrees : has (d .layout) utc ≡ false → zoneAgrees decoded ≡ true
   unfolding zoneAgrees carriesOf decodeFlag
-  zone-agrees h = rw h (go (has (d .layout) zone))
-    where
-      go : (t : Bool)
-          → not (isYes (decodeFlag (pick t firstOfTwo noFlag) (v utc) (v zone)) && isYes (decodeFlag (pick t secondOfTwo (pick (has (d .layout) summer) ownLetter noFlag)) (v summer) (v zone)))
-          ≡ true
-      go true = never-both (v zone)
-      go false = refl
+  zone-agrees h = rw h (either-way (has (d .layout) zone) (λ e. rw e (never-both (v zone))) (λ e. simp e))
 
   full-date : has (d .layout) month ≡ true → decoded .date ≡ dateIs.Full (v year) (v month) (v day)
   unfolding carriesOf decodeDate

@@ -1,7 +1,6 @@
 -- The contract of a writer over any form: its answer is `admitted`, and what it stored are the form's bytes.
 use Rattle.cond.proofs.Kit.{[], _&&_, _++_, _∙_, _∷_, _≡_, _≤_, ap, arith, Bool, drop, false, leb, leb-true, length, List, lt-ltb, refl, sym, true, ℕ}
-use Rattle.cond.specs.Pick.{pick}
-use Rattle.cond.proofs.Tests.{both}
+use Rattle.cond.proofs.Tests.{both, either-way}
 use Rattle.spelling.specs.Spelling.{bits, digits, grouped, hex, padded, word, words}
 use Rattle.record.specs.declared.Record.{Record}
 use Rattle.record.specs.declared.answer.Writing.{Writing}
@@ -33,34 +32,24 @@ module _ (d : Form) (r : Record) (o : List ℕ) (e : Bool) (x : isGood r ≡ tru
 
   writes : writeBy d r (length o) ≡ answer
   unfolding writeBy admitted
-  writes = go (isGood r) x
-    where
-      room : Writing
-      room = pick (leb (d .size) (length o)) (writing.Written (d .size)) (writing.Refused refusal.ShortBuffer)
-
-      word : Bool → Writing
-      word t = pick (hasCarried (carries d) r) (pick t room (writing.Refused refusal.NotExpressible)) (writing.Refused refusal.MissingField)
-
-      go : (g : Bool) → (g ≡ true → isExpressible (d .layout) (encode r) ≡ e)
-          → pick g (word (isExpressible (d .layout) (encode r))) (writing.Refused refusal.BadRecord) ≡ pick g (word e) (writing.Refused refusal.BadRecord)
-      go true h = ap word (h refl)
-      go false h = refl
+  writes = either-way (isGood r) (λ g. rw (x g)) (λ g. simp g)
 
   pub refused : (y : Refusal) → answer ≡ writing.Refused y → Wrote d r (writing.Refused y) o o
   refused y h = record { answer = sym (writes ∙ h); left = sym (left-refused d r o y (writes ∙ h)) }
 
   module _ (n : ℕ) (h : answer ≡ writing.Written n) where
-    fits : (t : Bool) → leb (d .size) (length o) ≡ t → d .size ≤ length o
+    fits : d .size ≤ length o
     unfolding admitted
-    fits true q = leb-true (d .size) (length o) q
-    fits false q =
+    fits =
+        either-way (leb (d .size) (length o)) (leb-true (d .size) (length o))
+        (λ q.
         let p = taken-by d r (length o) n (writes ∙ h) in
-        absurd (refused-written refusal.ShortBuffer n (simp (p .good, p .complete, sym (x (p .good)), p .spellable, q) at h))
+        absurd (refused-written refusal.ShortBuffer n (simp (p .good, p .complete, sym (x (p .good)), p .spellable, q) at h)))
 
     pub storable : Storable d r (length o)
     storable =
         let p = taken-by d r (length o) n (writes ∙ h) in
-        record { good = p .good; carried = p .complete; expressible = p .spellable; fits = fits (leb (d .size) (length o)) refl }
+        record { good = p .good; carried = p .complete; expressible = p .spellable; fits = fits }
 
     pub wrote-bytes : (after : List ℕ) → after ≡ bytesBy d (encode r) ++ drop (d .size) o → Wrote d r (writing.Written n) o after
     wrote-bytes after q =

@@ -1,6 +1,6 @@
 // Which values are in range, and which records are good.
 ghost use mathlib.Core.Path.{_≡_};
-ghost use Rattle.record.specs.Record.{timeInRange, dateInRange, fractionInRange, channelInRange, offsetInRange, positionInRange, dateTimeInRange, inRange, isYes, zoneAgrees, isGood, emptyRecord};
+ghost use Rattle.record.specs.Record.{timeInRange, dateInRange, fractionInRange, channelInRange, offsetInRange, positionInRange, dateTimeInRange, restInRange, inRange, isYes, zoneAgrees, isGood, emptyRecord};
 use crate::Channel;
 use crate::Date;
 use crate::Flag;
@@ -113,20 +113,31 @@ impl Record {
         ensures { λ r. ⌜ r ≡ dateTimeInRange self ⌝ }
     {
         let date = self.date;
-        time_in_range(self.hour, self.minute, self.second) & date_in_range(date)
+        if !time_in_range(self.hour, self.minute, self.second) {
+            return false;
+        }
+        date_in_range(date)
     }
 
-    pub fn in_range(self) -> bool
-        ensures { λ r. ⌜ r ≡ inRange self ⌝ }
+    fn rest_in_range(self) -> bool
+        ensures { λ r. ⌜ r ≡ restInRange self ⌝ }
     {
         let fraction = self.fraction;
         let channel = self.channel;
         let offset = self.offset;
         let position = self.position;
+        fraction_in_range(fraction)
+            & (channel_in_range(channel) & (offset_in_range(offset) & position_in_range(position)))
+    }
+
+    // The date is last, since it may need a look at the calendar's table.
+    pub fn in_range(self) -> bool
+        ensures { λ r. ⌜ r ≡ inRange self ⌝ }
+    {
+        if !self.rest_in_range() {
+            return false;
+        }
         self.date_time_in_range()
-            & (fraction_in_range(fraction)
-                & (channel_in_range(channel)
-                    & (offset_in_range(offset) & position_in_range(position))))
     }
 
     // Summer time is no UTC.

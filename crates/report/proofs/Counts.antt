@@ -1,6 +1,7 @@
 -- How many digits a count has, found digit by digit.
-use Rattle.cond.proofs.Kit.{_+_, _-_, _/_, _<_, _≡_, _≤_, arith, Bool, false, le-ltb, lt-ltb, ltb, suc, true, ℕ}
+use Rattle.cond.proofs.Kit.{_+_, _-_, _/_, _<_, _≡_, _≤_, arith, le-ltb, lt-ltb, ltb, suc, ℕ}
 use Rattle.cond.specs.Pick.{pick}
+use Rattle.cond.proofs.Tests.{either-way}
 use Rattle.report.specs.Summary.{placesOf, placesUpTo}
 
 -- behind k - 1 digits, `rest` tells the others
@@ -26,11 +27,7 @@ module _ (n rest k : ℕ) (i : Counting n rest k) where
   twentieth l =
       let e : 21 - k ≡ suc 0 = omega (arith, i .most) in
       let h : k - 1 + pick (ltb rest 10) 1 (0 + 1) ≡ placesOf n = rw e at (i .others) in
-      go (ltb rest 10) h
-    where
-      go : (t : Bool) → k - 1 + pick t 1 (0 + 1) ≡ placesOf n → k ≡ placesOf n
-      go true h = omega (arith, i .some-place)
-      go false h = omega (arith, i .some-place)
+      either-way (ltb rest 10) (λ t. omega (arith, i .some-place, rw t at h)) (λ t. omega (arith, i .some-place, rw t at h))
 
   pub one-digit-more : k < 20 → 10 ≤ rest → Counting n (rest / 10) (k + 1)
   unfolding placesUpTo

@@ -1,5 +1,6 @@
 -- Bytes moved to the head of a buffer one by one, and the last bytes of its filled part.
-use Rattle.cond.proofs.Kit.{[], _+_, _-_, _<_, _∙_, _≡_, _≤_, add-one, ap, arith, Bool, drop, drop-of-length-le, drop-paste, false, getD, getD-drop, leb, leb-false, leb-true, length, length-drop, length-take, length-take-le, List, min, paste, paste-suc, refl, set, sym, take, take-all, true, zero-add, ℕ}
+use Rattle.cond.proofs.Kit.{[], _+_, _-_, _<_, _∙_, _≡_, _≤_, add-one, ap, arith, drop, drop-of-length-le, drop-paste, getD, getD-drop, leb, leb-false, leb-true, length, length-drop, length-take, length-take-le, List, min, paste, paste-suc, set, sym, take, take-all, zero-add, ℕ}
+use Rattle.cond.proofs.Tests.{either-way}
 use Rattle.cond.proofs.Parts.{drop-take}
 use Rattle.forms.specs.Valid.{lengthOf}
 use Rattle.stream.specs.Window.{lastOf}
@@ -28,16 +29,11 @@ module _ (b : List ℕ) (from k : ℕ) (inside : from + k ≤ length b) (i : ℕ
 -- the last bytes of the filled part
 
 pub take-least : (m : ℕ) (s : List ℕ) → take (min m (length s)) s ≡ take m s
-take-least m s = go (leb m (length s)) refl
-  where
-    go : (t : Bool) → leb m (length s) ≡ t → take (min m (length s)) s ≡ take m s
-    go true h =
-        let l = leb-true m (length s) h in
-        let e : min m (length s) ≡ m = omega arith in
-        rw e
-    go false h =
-        let l = leb-false m (length s) h in
-        take-all (min m (length s)) s (omega arith) ∙ sym (take-all m s (omega arith))
+take-least m s =
+    either-way (leb m (length s)) (λ h. let e : min m (length s) ≡ m = omega (arith, leb-true m (length s) h) in rw e)
+    (λ h.
+    let l = leb-false m (length s) h in
+    take-all (min m (length s)) s (omega arith) ∙ sym (take-all m s (omega arith)))
 
 module _ (form end : ℕ) (b : List ℕ) where
   pub none-carried : lengthOf form ≡ 0 → Carried form end 0 b b

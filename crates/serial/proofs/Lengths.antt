@@ -1,10 +1,9 @@
 -- A number is that of a serial form, which has from 16 bytes to as many as a listener holds, or of none, which has the length 0.
 use Rattle.cond.proofs.Kit.{[], _&&_, _<_, _∙_, _∷_, _≡_, _≤_, arith, Bool, eqb, eqb-true, false, false≢true, leb, leb-true, List, lt-ltb, ltb, ltb-true, refl, sym, true, ℕ}
-use Rattle.cond.specs.Pick.{pick}
-use Rattle.cond.proofs.Tests.{both}
+use Rattle.cond.proofs.Tests.{both, either-way}
 use Rattle.forms.specs.Form.{Form}
 use Rattle.forms.specs.Forms.{FormKind, Numbered, block, isKnown, isSerial, formKindOf, serialForms, sized, unknown}
-use Rattle.forms.specs.Valid.{lengthAs, lengthOf}
+use Rattle.forms.specs.Valid.{lengthOf}
 use Rattle.forms.proofs.Instances.{allPass, variant-passes}
 use Rattle.serial.specs.Shape.{longest}
 
@@ -38,27 +37,15 @@ serial n = go (formKindOf serialForms n) refl (variant-passes isBounded serialFo
 module _ (n : ℕ) where
   pub length-most : lengthOf n ≤ longest
   unfolding lengthOf
-  length-most = go (serial n)
-    where
-      go : Serial n → lengthAs (formKindOf serialForms n) ≤ longest
-      go (known d e l m) = rw e m
-      go (other e) = rw e (omega arith)
+  length-most = elim (serial n) [ known d e l m ↦ rw e m | other e ↦ rw e (omega arith) ]
 
   pub length-least : (lengthOf n ≡ 0 → ⊥) → 16 ≤ lengthOf n
   unfolding lengthOf
-  length-least h = go (serial n)
-    where
-      go : Serial n → 16 ≤ lengthAs (formKindOf serialForms n)
-      go (known d e l m) = rw e l
-      go (other e) = absurd (h (rw e refl))
+  length-least h = elim (serial n) [ known d e l m ↦ rw e l | other e ↦ absurd (h (rw e refl)) ]
 
   is-serial : isSerial n ≡ ltb 0 (lengthOf n)
   unfolding isSerial lengthOf
-  is-serial = go (serial n)
-    where
-      go : Serial n → isKnown (formKindOf serialForms n) ≡ ltb 0 (lengthAs (formKindOf serialForms n))
-      go (known d e l m) = rw e (sym (lt-ltb 0 (d .size) (omega arith)))
-      go (other e) = rw e
+  is-serial = elim (serial n) [ known d e l m ↦ rw e (sym (lt-ltb 0 (d .size) (omega arith))) | other e ↦ rw e ]
 
   pub not-serial : lengthOf n ≡ 0 → isSerial n ≡ false
   not-serial e = is-serial ∙ rw e
@@ -69,24 +56,19 @@ module _ (n : ℕ) where
   pub serial-long : isSerial n ≡ true → 0 < lengthOf n
   serial-long h = ltb-true 0 (lengthOf n) (sym is-serial ∙ h)
 
--- a form's number fits a byte
+-- a form's number fits four bits
 
 unfoldable allLow : List Numbered → Bool
 allLow [] = true
-allLow (e ∷ es) = ltb (e .number) 256 && allLow es
+allLow (e ∷ es) = ltb (e .number) 16 && allLow es
 
-low : (es : List Numbered) (n : ℕ) → allLow es ≡ true → isKnown (formKindOf es n) ≡ true → n < 256
+low : (es : List Numbered) (n : ℕ) → allLow es ≡ true → isKnown (formKindOf es n) ≡ true → n < 16
 unfolding allLow formKindOf
 low [] n h k = absurd (false≢true k)
 low (e ∷ es) n h k =
-    let a = both (ltb (e .number) 256) (allLow es) h in
-    go (eqb n (e .number)) refl k (a .0) (low es n (a .1))
-  where
-    go : (t : Bool) → eqb n (e .number) ≡ t → isKnown (pick t (e .kind) (formKindOf es n)) ≡ true → ltb (e .number) 256 ≡ true
-        → (isKnown (formKindOf es n) ≡ true → n < 256) → n < 256
-    go true q k b i = rw (eqb-true n (e .number) q) (ltb-true (e .number) 256 b)
-    go false q k b i = i k
+    let a = both (ltb (e .number) 16) (allLow es) h in
+    either-way (eqb n (e .number)) (λ q. rw (eqb-true n (e .number) q) (ltb-true (e .number) 16 (a .0))) (λ q. low es n (a .1) (rw q at k))
 
-pub serial-low : (n : ℕ) → isSerial n ≡ true → n < 256
+pub serial-low : (n : ℕ) → isSerial n ≡ true → n < 16
 unfolding isSerial allLow
 serial-low n h = low serialForms n refl h

@@ -1,7 +1,7 @@
 -- Digits of a base spell each number below their power of the base, and only once: one law for decimal and hexadecimal.
 use Rattle.cond.proofs.Kit.{[], _%_, _&&_, _*_, _+_, _-_, _/_, _<_, _^_, _∙_, _∷_, _≡_, _≤_, ap, arith, Bool, digits-div, digits-lt, digits-mod, false, le-leb, le-ltb, leb, leb-false, leb-true, length, List, lit<, lt-leb, lt-ltb, ltb, ltb-false, ltb-true, mod-eq-of-lt, mod-lt, mod-mul, mul-comm, mul-pos, pow-suc, pow-zero, refl, subst, suc, sym, true, zero, ℕ, ⊎-elim}
 use Rattle.cond.specs.Pick.{pick}
-use Rattle.cond.proofs.Tests.{both, either}
+use Rattle.cond.proofs.Tests.{both, either, either-way}
 use Rattle.spelling.specs.Bytes.{allAre, digitOf, digitValue, hexOf, hexValue, isDigit, isHex, numberIn, spelledIn}
 
 -- each value below the base has its digit, and each digit its value
@@ -33,17 +33,16 @@ decimals =
 -- hexadecimal
 
 digit-value : (d : ℕ) → d < 16 → (isHex (hexOf d) ≡ true) × (hexValue (hexOf d) ≡ d)
-digit-value d h = go (ltb d 10) refl
-  where
-    go : (t : Bool) → ltb d 10 ≡ t → (isHex (pick t (d + 48) (d + 55)) ≡ true) × (hexValue (pick t (d + 48) (d + 55)) ≡ d)
-    go true e =
-        let l : d < 10 = ltb-true d 10 e in
-        let q = le-leb (d + 48) 57 (omega arith) in
-        (simp (le-leb 48 (d + 48) (omega arith), q), simp q (omega arith))
-    go false e =
-        let l : 10 ≤ d = ltb-false d 10 e in
-        let q = lt-leb (d + 55) 57 (omega arith) in
-        (simp (le-leb 48 (d + 55) (omega arith), q, le-leb 65 (d + 55) (omega arith), le-leb (d + 55) 70 (omega arith)), simp q (omega arith))
+digit-value d h =
+    either-way (ltb d 10)
+    (λ e.
+    let l : d < 10 = ltb-true d 10 e in
+    let q = le-leb (d + 48) 57 (omega arith) in
+    rw e (simp (le-leb 48 (d + 48) (omega arith), q), simp q (omega arith)))
+    (λ e.
+    let l : 10 ≤ d = ltb-false d 10 e in
+    let q = lt-leb (d + 55) 57 (omega arith) in
+    rw e (simp (le-leb 48 (d + 55) (omega arith), q, le-leb 65 (d + 55) (omega arith), le-leb (d + 55) 70 (omega arith)), simp q (omega arith)))
 
 value-digit : (b : ℕ) → isHex b ≡ true → (hexValue b < 16) × (hexOf (hexValue b) ≡ b)
 value-digit b h = go (leb b 57) refl

@@ -1,33 +1,23 @@
 -- Digits with spaces for leading zeros spell each number that the digits do, and only once.
-use Rattle.cond.proofs.Kit.{[], _%_, _&&_, _*_, _+_, _/_, _<_, _^_, _∙_, _∷_, _≡_, _≤_, ap, arith, Bool, div-eq-of-lt, eqb, eqb-false, eqb-true, false, false≢true, le-leb, leb, leb-true, length, List, mod-eq-of-lt, ne-eqb, pow-suc, refl, suc, true, ℕ}
-use Rattle.cond.specs.Pick.{pick}
-use Rattle.cond.proofs.Tests.{both}
-use Rattle.spelling.specs.Bytes.{allAre, areDigits, arePadded, blanked, decimal, digitOf, digitValue, isDigit, number, numberIn, spelledIn}
+use Rattle.cond.proofs.Kit.{[], _%_, _&&_, _*_, _+_, _/_, _<_, _^_, _∙_, _∷_, _≡_, _≤_, ap, arith, div-eq-of-lt, eqb, eqb-false, eqb-true, false≢true, le-leb, leb, leb-true, length, List, mod-eq-of-lt, ne-eqb, pow-suc, refl, suc, true, ℕ}
+use Rattle.cond.proofs.Tests.{both, either-way}
+use Rattle.spelling.specs.Bytes.{allAre, areDigits, arePadded, blanked, decimal, digitOf, isDigit, number, numberIn, spelledIn}
 use Rattle.spelling.proofs.Base.{decimals, digit-range, spelled-length, spelled-number, number-lt}
 
 pub blanked-length : (bs : List ℕ) → length (blanked bs) ≡ length bs
 unfolding blanked
 blanked-length [] = refl
 blanked-length (b ∷ []) = refl
-blanked-length (b ∷ c ∷ bs) = go (eqb b 48) (blanked-length (c ∷ bs))
-  where
-    go : (t : Bool) → length (blanked (c ∷ bs)) ≡ suc (length bs)
-        → length (pick t (32 ∷ blanked (c ∷ bs)) (b ∷ c ∷ bs)) ≡ suc (suc (length bs))
-    go true i = ap suc i
-    go false i = refl
+blanked-length (b ∷ c ∷ bs) = either-way (eqb b 48) (λ e. rw e (ap suc (blanked-length (c ∷ bs)))) (λ e. simp e)
 
 pub number-blanked : (bs : List ℕ) → number (blanked bs) ≡ number bs
 unfolding blanked numberIn
 number-blanked [] = refl
 number-blanked (b ∷ []) = refl
-number-blanked (b ∷ c ∷ bs) = go (eqb b 48) refl (number-blanked (c ∷ bs))
-  where
-    go : (t : Bool) → eqb b 48 ≡ t → number (blanked (c ∷ bs)) ≡ number (c ∷ bs)
-        → number (pick t (32 ∷ blanked (c ∷ bs)) (b ∷ c ∷ bs)) ≡ digitValue b * 10 ^ length (c ∷ bs) + number (c ∷ bs)
-    go true e i =
-        let z : b ≡ 48 = eqb-true b 48 e in
-        ap (λ (n : ℕ). 0 * 10 ^ length (blanked (c ∷ bs)) + n) i ∙ rw z (omega arith)
-    go false e i = refl
+number-blanked (b ∷ c ∷ bs) =
+    either-way (eqb b 48)
+    (λ e. rw e (ap (λ (n : ℕ). 0 * 10 ^ length (blanked (c ∷ bs)) + n) (number-blanked (c ∷ bs)) ∙ rw (eqb-true b 48 e) (omega arith)))
+    (λ e. rw e)
 
 space-padded : (x : List ℕ) → arePadded x ≡ true → arePadded (32 ∷ x) ≡ true
 unfolding arePadded
@@ -37,15 +27,13 @@ space-padded (c ∷ cs) h = h
 pub blanked-padded : (b : ℕ) (bs : List ℕ) → areDigits (b ∷ bs) ≡ true → arePadded (blanked (b ∷ bs)) ≡ true
 unfolding blanked arePadded allAre
 blanked-padded b [] h = both (isDigit b) true h .0
-blanked-padded b (c ∷ bs) h = go (eqb b 48) refl (blanked-padded c bs (both (isDigit b) (areDigits (c ∷ bs)) h .1))
-  where
-    go : (t : Bool) → eqb b 48 ≡ t → arePadded (blanked (c ∷ bs)) ≡ true → arePadded (pick t (32 ∷ blanked (c ∷ bs)) (b ∷ c ∷ bs)) ≡ true
-    go true e i = space-padded (blanked (c ∷ bs)) i
-    go false e i =
-        let d = both (isDigit b) (areDigits (c ∷ bs)) h in
-        let r = digit-range b (d .0) in
-        let n : b ≡ 48 → ⊥ = eqb-false b 48 e in
-        simp (ne-eqb b 32 (λ q. omega arith), le-leb 49 b (omega arith), le-leb b 57 (omega arith), d .1)
+blanked-padded b (c ∷ bs) h =
+    let d = both (isDigit b) (areDigits (c ∷ bs)) h in
+    either-way (eqb b 48) (λ e. rw e (space-padded (blanked (c ∷ bs)) (blanked-padded c bs (d .1))))
+    (λ e.
+    let r = digit-range b (d .0) in
+    let n : b ≡ 48 → ⊥ = eqb-false b 48 e in
+    simp (e, ne-eqb b 32 (λ q. omega arith), le-leb 49 b (omega arith), le-leb b 57 (omega arith), d .1))
 
 -- a number that the digits behind the first one hold has 0 for its first
 high-zero : (w n : ℕ) → n < 10 ^ w → decimal (suc w) n ≡ 48 ∷ decimal w n
@@ -100,12 +88,9 @@ padded-both (b ∷ []) h =
     let d : areDigits (b ∷ []) ≡ true = unfold allAre in simp h in
     let k : blanked (b ∷ []) ≡ b ∷ [] = unfold blanked in refl in
     (ap blanked (spelled-number decimals (b ∷ []) d) ∙ k, number-lt decimals (b ∷ []) d)
-padded-both (b ∷ c ∷ bs) h = go (eqb b 32) refl h (padded-both (c ∷ bs))
-  where
-    go : (t : Bool) → eqb b 32 ≡ t → pick t (arePadded (c ∷ bs)) ((leb 49 b && leb b 57) && areDigits (c ∷ bs)) ≡ true
-        → (arePadded (c ∷ bs) ≡ true → Padded (c ∷ bs)) → Padded (b ∷ c ∷ bs)
-    go true e g i = rw (eqb-true b 32 e) (space-both (c ∷ bs) (length bs) refl (i g))
-    go false e g i =
-        let q = both (leb 49 b && leb b 57) (areDigits (c ∷ bs)) g in
-        let r = both (leb 49 b) (leb b 57) (q .0) in
-        digits-padded b c bs (leb-true 49 b (r .0), leb-true b 57 (r .1)) (q .1)
+padded-both (b ∷ c ∷ bs) h =
+    either-way (eqb b 32) (λ e. rw (eqb-true b 32 e) (space-both (c ∷ bs) (length bs) refl (padded-both (c ∷ bs) (rw e at h))))
+    (λ e.
+    let q = both (leb 49 b && leb b 57) (areDigits (c ∷ bs)) (rw e at h) in
+    let r = both (leb 49 b) (leb b 57) (q .0) in
+    digits-padded b c bs (leb-true 49 b (r .0), leb-true b 57 (r .1)) (q .1))

@@ -1,6 +1,7 @@
 -- A store with room for its bytes is that of the library, one without changes nothing, and no store changes the length.
 use Rattle.cond.proofs.Kit.{[], _*_, _++_, _+_, _-_, _<_, _^_, _∙_, _∷_, _≡_, _≤_, arith, Bool, false, le-leb, le-mul-of-pos-right, leb, leb-false, leb-true, length, length-append, length-sets, List, lt-leb, not, not-false, not-true, refl, sets, sym, true, ℕ}
 use Rattle.cond.specs.Pick.{pick}
+use Rattle.cond.proofs.Tests.{either-way}
 use Rattle.spelling.specs.Stored.{stored, upTo}
 use Rattle.spelling.proofs.Base.{power-pos}
 use Rattle.spelling.proofs.Stores.{sets-append}
@@ -26,11 +27,7 @@ module _ (o : List ℕ) (k : ℕ) (xs : List ℕ) where
 
   pub stored-length : length (stored o k xs) ≡ length o
   unfolding stored
-  stored-length = go (leb (k + length xs) (length o))
-    where
-      go : (t : Bool) → length (pick t (sets o k xs) o) ≡ length o
-      go true = length-sets o k xs
-      go false = refl
+  stored-length = either-way (leb (k + length xs) (length o)) (λ e. rw e (length-sets o k xs)) (λ e. rw e)
 
 -- one store behind the other is one of all the bytes
 pub stored-append : (o : List ℕ) (k : ℕ) (xs ys : List ℕ) → k + (length xs + length ys) ≤ length o
@@ -54,11 +51,9 @@ module _ (m : ℕ) (s : List ℕ) (n : ℕ) where
 
 -- room behind a place
 pub room-behind : (n k w : ℕ) → k ≤ n → leb w (n - k) ≡ leb (k + w) n
-room-behind n k w h = go (leb w (n - k)) refl
-  where
-    go : (t : Bool) → leb w (n - k) ≡ t → t ≡ leb (k + w) n
-    go true e = sym (le-leb (k + w) n (omega (arith, leb-true w (n - k) e)))
-    go false e = sym (lt-leb (k + w) n (omega (arith, leb-false w (n - k) e)))
+room-behind n k w h =
+    either-way (leb w (n - k)) (λ e. e ∙ sym (le-leb (k + w) n (omega (arith, leb-true w (n - k) e))))
+    (λ e. e ∙ sym (lt-leb (k + w) n (omega (arith, leb-false w (n - k) e))))
 
 -- what the answer of `has_room` says
 module _ {t : Bool} {m n : ℕ} (e : t ≡ leb m n) where

@@ -1,10 +1,11 @@
 // Decimal digits tested, read and spelled.
 ghost use mathlib.Core.Path.{_≡_};
-ghost use Prim.Native.Nat.{_+_, _*_, _^_, _≤_};
+ghost use Prim.Native.Nat.{_+_, _*_, _%_, _^_, _≤_};
 ghost use lib.ListN.{length};
 ghost use Rattle.spelling.specs.Bytes.{allAre, areDigits, decimal, digitValue, isDigit, isWithin, number};
 ghost use Rattle.spelling.specs.Stored.{stored, upTo};
 use crate::store::has_room;
+use crate::store::put_bytes;
 
 // Every byte lies between two bytes. A loop without an early end is unrolled where the length is known, and its tests are joined.
 pub fn all_within(s: &[u8], low: u8, high: u8) -> bool
@@ -60,7 +61,31 @@ pub fn number(s: &[u8]) -> u32
 pub fn put_digits(out: &mut [u8], at: usize, w: usize, n: u32)
     ensures { λ _. ⌜ now (out .exit) ≡ stored (now (out .entry)) at (decimal w n) ⌝ }
 {
-    put_count(out, at, w, n as u64);
+    if w == 2 {
+        put_pair(out, at, n);
+    } else {
+        put_count(out, at, w, n as u64);
+    }
+}
+
+// Most numbers with a place of two digits are below 100, which spares a division.
+fn last_two(n: u32) -> u32
+    ensures { λ r. ⌜ r ≡ n % 100 ⌝ }
+{
+    if n < 100 {
+        return n;
+    }
+    n % 100
+}
+
+// The last two digits, by one division.
+fn put_pair(out: &mut [u8], at: usize, n: u32)
+    ensures { λ _. ⌜ now (out .exit) ≡ stored (now (out .entry)) at (decimal 2 n) ⌝ }
+{
+    let rest = last_two(n);
+    let tens = rest / 10;
+    let digits = [(tens + 48) as u8, (rest - tens * 10 + 48) as u8];
+    put_bytes(out, at, &digits);
 }
 
 // The same for a number of 64 bits.

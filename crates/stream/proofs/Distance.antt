@@ -1,5 +1,6 @@
 -- Refusal 13 never occurs: the distance counts the bytes since the last record, and a valid string ends n or more bytes behind it.
-use Rattle.cond.proofs.Kit.{[], _++_, _+_, _-_, _<_, _∙_, _∷_, _≡_, _≤_, ap, arith, Bool, false, le-ltb, length, length-append, List, ltb, ltb-false, ltb-true, min, none, Option, refl, some, suc, sym, true, zero, ℕ}
+use Rattle.cond.proofs.Kit.{[], _++_, _+_, _-_, _<_, _∙_, _∷_, _≡_, _≤_, ap, arith, le-ltb, length, length-append, List, ltb, ltb-false, ltb-true, min, none, Option, refl, some, suc, sym, zero, ℕ}
+use Rattle.cond.proofs.Tests.{either-way}
 use Rattle.stream.specs.Answer.{Answer, handed, handedOut, nothing, refused}
 use Rattle.stream.specs.Distance.{Fits, Since, State, distanceAfter, fresh, stepAnswer, stepNext, unlessOverlap}
 use Rattle.stream.specs.Heard.{heardAll, heardAt}
@@ -31,19 +32,18 @@ module _ {R : Type 0} (m n : ℕ) (valid : List ℕ → Option R) where
   -- where a byte ends a valid string, the distance held before it is not under n-1
   not-under :
       Strings n valid → (p : List ℕ) (b d : ℕ) (r : R) → Since n valid p d → heardAt n valid (p ++ (b ∷ [])) (length p + 1) ≡ some r → n - 1 ≤ d
-  not-under law p b d r since h = go (ltb d (n - 1)) refl
-    where
-      go : (t : Bool) → ltb d (n - 1) ≡ t → n - 1 ≤ d
-      go false e = ltb-false d (n - 1) e
-      go true e =
-          let l = ltb-true d (n - 1) e in
-          let last = since .last-there (omega arith) in
-          let b1 = law .some-byte in
-          let fits = heard-some n valid p (length p - d) (last .0) (last .1) .0 in
-          let at : length p - d + (d + 1) ≡ length p + 1 = omega arith in
-          absurd
-          (ends-apart n valid law (p ++ (b ∷ [])) (length p - d) (d + 1) (last .0) r (omega arith) (omega arith)
-          (heard-stays n valid p (b ∷ []) (length p - d) (omega arith) ∙ last .1) (rw at h))
+  not-under law p b d r since h =
+      either-way (ltb d (n - 1))
+      (λ e.
+      let l = ltb-true d (n - 1) e in
+      let last = since .last-there (omega arith) in
+      let b1 = law .some-byte in
+      let fits = heard-some n valid p (length p - d) (last .0) (last .1) .0 in
+      let at : length p - d + (d + 1) ≡ length p + 1 = omega arith in
+      absurd
+      (ends-apart n valid law (p ++ (b ∷ [])) (length p - d) (d + 1) (last .0) r (omega arith) (omega arith)
+      (heard-stays n valid p (b ∷ []) (length p - d) (omega arith) ∙ last .1) (rw at h)))
+      (ltb-false d (n - 1))
 
   -- the answer is the record or nothing
   never-overlap :

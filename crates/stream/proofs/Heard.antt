@@ -1,5 +1,6 @@
 -- What a byte hands out depends on its window alone: on no byte before it and on none behind it.
-use Rattle.cond.proofs.Kit.{[], _++_, _+_, _-_, _<_, _∙_, _≡_, _≤_, arith, Bool, drop, drop-append-add, drop-append-le, drop-drop, false, le-leb, leb, leb-false, leb-true, length, length-drop, List, lt-leb, none, Option, refl, some, sym, take-append-le, true, zero-add, ℕ}
+use Rattle.cond.proofs.Kit.{[], _++_, _+_, _-_, _<_, _∙_, _≡_, _≤_, arith, drop, drop-append-add, drop-append-le, drop-drop, le-leb, leb, leb-false, leb-true, length, length-drop, List, lt-leb, none, Option, some, sym, take-append-le, zero-add, ℕ}
+use Rattle.cond.proofs.Tests.{either-way}
 use Rattle.stream.specs.Heard.{heardAt}
 use Rattle.stream.specs.Window.{window}
 
@@ -22,13 +23,11 @@ module _ {R : Type 0} (n : ℕ) (valid : List ℕ → Option R) where
 
   -- a record is that of a valid window
   pub heard-some : (s : List ℕ) (k : ℕ) (r : R) → heardAt n valid s k ≡ some r → (n ≤ k) × (valid (window n s (k - n)) ≡ some r)
-  heard-some s k r h = go (leb n k) refl
-    where
-      go : (t : Bool) → leb n k ≡ t → (n ≤ k) × (valid (window n s (k - n)) ≡ some r)
-      go true e = (leb-true n k e, sym (heard-window s k (leb-true n k e)) ∙ h)
-      go false e =
-          let z = heard-short s k (leb-false n k e) in
-          absurd (let y : _≡_ {A = ℕ} 0 1 = cc in omega arith)
+  heard-some s k r h =
+      either-way (leb n k) (λ e. (leb-true n k e, sym (heard-window s k (leb-true n k e)) ∙ h))
+      (λ e.
+      let z = heard-short s k (leb-false n k e) in
+      absurd (let y : _≡_ {A = ℕ} 0 1 = cc in omega arith))
 
   -- the bytes of a piece hand out what they hand out by themselves, from byte n of it on
   pub heard-inside :
@@ -44,11 +43,9 @@ module _ {R : Type 0} (n : ℕ) (valid : List ℕ → Option R) where
 
   -- what comes later changes nothing
   pub heard-stays : (s t : List ℕ) (k : ℕ) → k ≤ length s → heardAt n valid (s ++ t) k ≡ heardAt n valid s k
-  heard-stays s t k l = go (leb n k) refl
-    where
-      go : (x : Bool) → leb n k ≡ x → heardAt n valid (s ++ t) k ≡ heardAt n valid s k
-      go true e = rw zero-add at (heard-inside [] s t k (leb-true n k e) l)
-      go false e = heard-short (s ++ t) k (leb-false n k e) ∙ sym (heard-short s k (leb-false n k e))
+  heard-stays s t k l =
+      either-way (leb n k) (λ e. rw zero-add at (heard-inside [] s t k (leb-true n k e) l))
+      (λ e. heard-short (s ++ t) k (leb-false n k e) ∙ sym (heard-short s k (leb-false n k e)))
 
   -- "Where two lists for one form share a piece"
   pub shared :

@@ -154,7 +154,7 @@ static void compare_mark(uint32_t in, const uint8_t *s, size_t length, size_t ro
 /* A state that no start leads to: a string but for its last byte, and kept and distance as it may be. */
 static void compare_made_state(void)
 {
-    plain_listener l = {.form = (uint8_t)(below(8) ? form : below(256)), .at = (uint8_t)below(PLAIN_LONGEST)};
+    plain_listener l = {.form = (uint8_t)(below(8) ? LINDENSCOOP_STATE_VERSION << 4 | form : below(256)), .at = (uint8_t)below(PLAIN_LONGEST)};
     lindenscoop_listener m;
     uint8_t s[PLAIN_LONGEST];
     const uint32_t n = plain_shapes[form].length;

@@ -7,6 +7,9 @@ use crate::convert;
 
 const RING: usize = 66;
 
+/// What stands in the form's byte beside the form: version 1.
+const VERSION: u8 = 1 << 4;
+
 fn block_hex(record: &Record) -> String {
     hex(record
         .block()
@@ -74,7 +77,7 @@ fn state_of(form: u32, distance: usize, kept: &[u8]) -> Option<State> {
     state[RING - kept.len()..RING].copy_from_slice(kept);
     state[RING + 1] = kept.len() as u8;
     state[RING + 2] = u8::try_from(distance).ok()?;
-    state[RING + 3] = u8::try_from(form).ok()?;
+    state[RING + 3] = u8::try_from(form).ok()? ^ VERSION;
     Some(state)
 }
 
@@ -85,7 +88,7 @@ fn spelled(state: &State) -> String {
     let kept = usize::from(state[RING + 1]);
     format!(
         "{} {} {}",
-        state[RING + 3],
+        state[RING + 3] ^ VERSION,
         state[RING + 2],
         hex(&ring[RING - kept..])
     )

@@ -1,8 +1,9 @@
 //! Compares the library with the independent reference program on seeded requests, and with the vectors.
 //!
-//!     differential SEED COUNT VECTORS  compares COUNT requests and every line of the folder VECTORS
+//!     differential SEED COUNT VECTORS  compares COUNT requests and every line of VECTORS
+//!     differential VECTORS             compares the lines alone
 //!
-//! A mismatch is printed and fails. Before that it plants a fault on either side, and fails if that is not noticed.
+//! VECTORS is a file of lines, or a folder whose `.txt` files have them; vectors/README.md describes a line. A mismatch is printed and fails. Before that it plants a fault on either side, and fails if that is not noticed.
 
 use std::collections::BTreeMap;
 use std::env;
@@ -60,20 +61,29 @@ fn compare(seed: u64, count: usize) -> (usize, usize) {
     (asked, mismatches)
 }
 
-fn main() -> Result<ExitCode, Box<dyn Error>> {
-    let words: Vec<String> = env::args().skip(1).collect();
-    let [seed, count, folder] = &words[..] else {
-        return Err("usage: differential SEED COUNT VECTORS".into());
-    };
-    let seed = seed.parse()?;
-    if !notices_faults(seed) {
-        return Err("a planted fault was not noticed".into());
-    }
-    let (asked, mismatches) = compare(seed, count.parse()?);
-    let (agreed, differ) = vectors::compare(Path::new(folder))?;
+/// Compares the lines of a file or folder; whether there are any and all agree.
+fn vectors_agree(path: &str) -> Result<bool, Box<dyn Error>> {
+    let (agreed, differ) =
+        vectors::compare(Path::new(path)).map_err(|error| format!("{path}: {error}"))?;
     differ.iter().for_each(|line| println!("differs: {line}"));
     println!("vectors: {agreed} lines agree, {} differ", differ.len());
-    let good = asked > 0 && mismatches == 0 && agreed > 0 && differ.is_empty();
+    Ok(agreed > 0 && differ.is_empty())
+}
+
+fn main() -> Result<ExitCode, Box<dyn Error>> {
+    let words: Vec<String> = env::args().skip(1).collect();
+    let good = match &words[..] {
+        [path] => vectors_agree(path)?,
+        [seed, count, path] => {
+            let seed = seed.parse()?;
+            if !notices_faults(seed) {
+                return Err("a planted fault was not noticed".into());
+            }
+            let (asked, mismatches) = compare(seed, count.parse()?);
+            vectors_agree(path)? && asked > 0 && mismatches == 0
+        }
+        _ => return Err("usage: differential [SEED COUNT] VECTORS".into()),
+    };
     Ok(if good {
         ExitCode::SUCCESS
     } else {

@@ -2,7 +2,7 @@
 
 use std::fs;
 use std::io;
-use std::path::Path;
+use std::path::{Path, PathBuf};
 
 use lindenscoop::{read, write, Form};
 use reference::protocol::{parse_fields, FILLING};
@@ -12,14 +12,15 @@ use crate::convert;
 /// The bytes of a text in which `\xNN` stands for one byte and everything else for itself.
 fn unescaped(text: &str) -> Option<Vec<u8>> {
     let mut bytes = Vec::new();
-    let mut rest = text;
-    while let Some(first) = rest.bytes().next() {
-        if let Some(digits) = rest.strip_prefix("\\x") {
-            bytes.push(u8::from_str_radix(digits.get(..2)?, 16).ok()?);
+    let mut rest = text.as_bytes();
+    while let [first, behind @ ..] = rest {
+        if let Some(digits) = rest.strip_prefix(b"\\x") {
+            let pair = std::str::from_utf8(digits.get(..2)?).ok()?;
+            bytes.push(u8::from_str_radix(pair, 16).ok()?);
             rest = &digits[2..];
         } else {
-            bytes.push(first);
-            rest = &rest[1..];
+            bytes.push(*first);
+            rest = behind;
         }
     }
     Some(bytes)
@@ -47,31 +48,57 @@ fn answered(form: &str, input: &str) -> Option<(u32, Vec<u8>)> {
     })
 }
 
-fn agrees(line: &str) -> bool {
-    let columns: Vec<&str> = line.split('\t').collect();
-    let [form, input, number, bytes, _origin] = columns[..] else {
-        return false;
+/// The bytes as a line has them.
+fn escaped(bytes: &[u8]) -> String {
+    let spell = |&byte: &u8| match byte {
+        b' '..=b'[' | b']'..=b'~' => char::from(byte).to_string(),
+        _ => format!("\\x{byte:02X}"),
     };
-    let expected = number.parse().ok().zip(unescaped(bytes));
-    expected.is_some() && answered(form, input) == expected
+    bytes.iter().map(spell).collect()
 }
 
-/// Compares all lines of a folder's `.txt` files: how many agree, and those that do not.
-pub fn compare(folder: &Path) -> io::Result<(usize, Vec<String>)> {
-    let (mut agreed, mut differ) = (0, Vec::new());
-    for entry in fs::read_dir(folder)? {
-        let path = entry?.path();
-        if path.extension().is_none_or(|ending| ending != "txt") {
-            continue;
+/// What is wrong with a line, if anything is.
+fn fault(line: &str) -> Option<String> {
+    let columns: Vec<&str> = line.split('\t').collect();
+    let [form, input, number, bytes, _origin] = columns[..] else {
+        return Some(format!("{} columns, and a line has 5", columns.len()));
+    };
+    let Some(answer) = answered(form, input) else {
+        return Some("form or input cannot be understood".into());
+    };
+    let Some(expected) = number.parse().ok().zip(unescaped(bytes)) else {
+        return Some("number or bytes cannot be understood".into());
+    };
+    (answer != expected)
+        .then(|| format!("the library answers {}\t{}", answer.0, escaped(&answer.1)))
+}
+
+/// The files of a folder that have lines, or the file itself.
+fn files(path: &Path) -> io::Result<Vec<PathBuf>> {
+    if !path.is_dir() {
+        return Ok(vec![path.to_path_buf()]);
+    }
+    let mut found = Vec::new();
+    for entry in fs::read_dir(path)? {
+        let file = entry?.path();
+        if file.extension().is_some_and(|ending| ending == "txt") {
+            found.push(file);
         }
-        for line in fs::read_to_string(&path)?
-            .lines()
-            .filter(|line| !line.starts_with('#'))
-        {
-            if agrees(line) {
-                agreed += 1;
-            } else {
-                differ.push(format!("{}: {line}", path.display()));
+    }
+    found.sort();
+    Ok(found)
+}
+
+/// Compares all lines of a file, or of a folder's `.txt` files: how many agree, and of the others where they stand and what is wrong.
+pub fn compare(path: &Path) -> io::Result<(usize, Vec<String>)> {
+    let (mut agreed, mut differ) = (0, Vec::new());
+    for file in files(path)? {
+        let text = fs::read_to_string(&file)?;
+        let lines = text.lines().zip(1..);
+        for (line, at) in lines.filter(|(line, _)| !line.is_empty() && !line.starts_with('#')) {
+            match fault(line) {
+                None => agreed += 1,
+                Some(what) => differ.push(format!("{}:{at}: {line}\n  {what}", file.display())),
             }
         }
     }

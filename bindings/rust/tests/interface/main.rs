@@ -1,7 +1,8 @@
-//! What programs rest on beside the library's own answers: forms by name, places in a stream, refusals as errors, vectors, years.
+//! What programs rest on beside the library's own answers: forms by name, places in a stream, refusals as errors, stored states, vectors, years.
 
 mod dates;
 mod forms;
 mod places;
 mod refusals;
+mod states;
 mod writing;

@@ -3,14 +3,13 @@ use Rattle.cond.proofs.Kit.{_∙_, needs, now, refl, sym, true}
 use Rattle.forms.specs.Forms.{formKindOf}
 use Rattle.forms.specs.Serial.{capture, captureLayout}
 use Rattle.forms.proofs.Instances.{serial-sound}
-use Rattle.places.specs.Stores.{stores}
 use Rattle.forms.specs.Places.{has}
 use Rattle.places.proofs.Wrote.{alwaysHasWords, alwaysExpressible, refused, layout-has-words, wrote}
 use Rattle.capture.proofs.write.Statement.{statement}
 use Rattle.capture.proofs.write.Tie as tie
 
 pub write-spec : {M : Type 1} → statement M
-unfolding alwaysExpressible alwaysHasWords has formKindOf stores
+unfolding alwaysExpressible alwaysHasWords has formKindOf
 write-spec =
     tie.close
     (tie.spec

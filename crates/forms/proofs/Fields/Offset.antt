@@ -1,7 +1,7 @@
 -- The offset: hours with minutes, or with a half hour, and a sign.
 use Rattle.cond.proofs.Kit.{_%_, _*_, _/_, _<_, _∙_, _≡_, _≤_, ap, arith, Bool, digits-div, digits-mod, eqb, eqb-true, false, false≢true, leb-true, natAbs, refl, suc, true, zero, ℕ}
 use Rattle.cond.specs.Pick.{pick}
-use Rattle.cond.proofs.Tests.{pick-le}
+use Rattle.cond.proofs.Tests.{either-way, pick-le}
 use Rattle.record.specs.Record.{offsetInRange}
 use Rattle.record.specs.Sign.{isNegative}
 use Rattle.record.specs.declared.Offset.{Offset}
@@ -57,12 +57,9 @@ module _ (v : Values) (r : Record) (t : v offsetMinutes < 60) where
 -- an offset that has a half hour's element is a whole number of half hours
 half-hours : (n h : ℕ) → h ≡ halfHourOf n → h < 2 → h * 30 ≡ n
 unfolding halfHourOf
-half-hours n h e l = go (eqb n 0) (eqb n 30) refl refl e
-  where
-    go : (a b : Bool) → eqb n 0 ≡ a → eqb n 30 ≡ b → h ≡ pick a 0 (pick b 1 2) → h * 30 ≡ n
-    go true b p q e = omega (arith, eqb-true n 0 p)
-    go false true p q e = omega (arith, eqb-true n 30 q)
-    go false false p q e = absurd (omega arith)
+half-hours n h e l =
+    either-way (eqb n 0) (λ p. omega (arith, eqb-true n 0 p, simp p at e))
+    (λ p. either-way (eqb n 30) (λ q. omega (arith, eqb-true n 30 q, simp (p, q) at e)) (λ q. absurd (omega (arith, simp (p, q) at e))))
 
 minutes-again : (x : Offset) (sign n : ℕ) → hasOffset true x ≡ true → sign ≡ encodeMinus x → n ≡ encodeMinutes x → decodeOffset true sign n ≡ x
 unfolding decodeOffset

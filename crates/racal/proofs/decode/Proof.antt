@@ -1,13 +1,13 @@
 -- Each number is a call, and the layout carries the full date alone.
 use borrow.Author.Needs.{needs}
 use Rattle.forms.specs.Carries.{carriesOf}
-use Rattle.forms.specs.Decode.{decodeChannel, decodeDate, decodeFlag, decodeFraction, decodeMinutes, decodeOffset, decodePosition}
+use Rattle.forms.specs.Decode.{decodeChannel, decodeDate, decodeFlag, decodeFraction, decodeOffset, decodePosition}
 use Rattle.forms.specs.Places.{has, values}
 use Rattle.racal.proofs.decode.Statement.{statement}
 use Rattle.racal.proofs.decode.Tie as tie
 
 pub decode-spec : {M : Type 1} → statement M
-unfolding carriesOf has values decodeDate decodeFraction decodeChannel decodeFlag decodeOffset decodePosition decodeMinutes
+unfolding carriesOf has values decodeDate decodeFraction decodeChannel decodeFlag decodeOffset decodePosition
 decode-spec =
     tie.close
     (tie.spec

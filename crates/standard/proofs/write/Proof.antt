@@ -3,14 +3,13 @@ use Rattle.cond.proofs.Kit.{needs, now, refl}
 use Rattle.forms.specs.Forms.{formKindOf}
 use Rattle.forms.specs.Serial.{standard}
 use Rattle.forms.proofs.Instances.{serial-sound}
-use Rattle.places.specs.Stores.{stores}
 use Rattle.places.proofs.Wrote.{refused, storable, wrote}
 use Rattle.standard.proofs.Form.{has-words-of}
 use Rattle.standard.proofs.write.Statement.{statement}
 use Rattle.standard.proofs.write.Tie as tie
 
 pub write-spec : {M : Type 1} → statement M
-unfolding formKindOf stores
+unfolding formKindOf
 write-spec =
     tie.close
     (tie.spec

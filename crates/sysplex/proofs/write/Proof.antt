@@ -4,7 +4,6 @@ use Rattle.spelling.specs.Bytes.{letters}
 use Rattle.forms.specs.Forms.{formKindOf}
 use Rattle.forms.specs.Serial.{sysplex, sysplexLayout}
 use Rattle.forms.proofs.Instances.{serial-sound}
-use Rattle.places.specs.Stores.{stores}
 use Rattle.forms.specs.Places.{has}
 use Rattle.forms.proofs.Limits.{bound}
 use Rattle.places.proofs.Weekday.{stored-ordinal}
@@ -23,7 +22,7 @@ store-requires c κs =
     (simp (k .before .before .is-good .ensures, k .before .has-carried .ensures) at (sym (k .admitted .ensures) ∙ c .before .before .before .answer .given .1)))
 
 returns : tie.Need-returns
-unfolding alwaysExpressible alwaysHasWords has bound letters formKindOf stores
+unfolding alwaysExpressible alwaysHasWords has bound letters formKindOf
 returns c =
     let k = c .before .before .before .before .before .before in
     let a = k .before .before .before .before .before .before .args in

@@ -4,7 +4,6 @@ use Rattle.cond.proofs.Kit.{needs, now, refl, true}
 use Rattle.forms.specs.Forms.{formKindOf}
 use Rattle.forms.specs.Serial.{erlangen, erlangenLayout}
 use Rattle.forms.proofs.Instances.{serial-sound}
-use Rattle.places.specs.Stores.{stores}
 use Rattle.forms.specs.Places.{has}
 use Rattle.forms.proofs.Limits.{bound}
 use Rattle.places.proofs.Wrote.{alwaysHasWords, alwaysExpressible, refused, layout-has-words, storable, wrote}
@@ -12,7 +11,7 @@ use Rattle.erlangen.proofs.writer.write.Statement.{statement}
 use Rattle.erlangen.proofs.writer.write.Tie as tie
 
 pub write-spec : {M : Type 1} → statement M
-unfolding alwaysExpressible alwaysHasWords has bound letters formKindOf stores
+unfolding alwaysExpressible alwaysHasWords has bound letters formKindOf
 write-spec =
     tie.close
     (tie.spec

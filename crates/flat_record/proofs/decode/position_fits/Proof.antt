@@ -1,17 +1,18 @@
 -- Each kind is a case of its own.
-use Rattle.cond.proofs.Kit.{_∙_, needs, sym}
+use Rattle.cond.proofs.Kit.{needs}
+use Rattle.flat_record.specs.Decode.{kindOf}
+use Rattle.flat_record.proofs.OneKind.{none-fits}
 use Rattle.flat_record.proofs.decode.position_fits.Statement.{statement}
 use Rattle.flat_record.proofs.decode.position_fits.Tie as tie
 
 pub position-fits-spec : {M : Type 1} → statement M
+unfolding kindOf
 position-fits-spec =
     tie.close
     (tie.spec
-    (λ c. search needs) (λ c κs. search needs) (λ c. search needs) (λ c. search needs) (λ c. search needs) (λ c. search needs)
-    (λ c κs. search needs) (λ c. search needs) (λ c. search needs) (λ c κs. search needs) (λ c. search needs) (λ c. search needs)
-    (λ c. simp (sym (c .before .before .kind-of .ensures) ∙ c .enum-told .given .1))
+    (λ c. search needs) (λ c. search needs) (λ c. search needs) (λ c κs. search needs) (λ c. search needs) (λ c. search needs)
+    (λ c κs. search needs) (λ c. simp (c .match .keys1))
     (λ c.
-    let k = c .before .before .before .before .before .before in
-    simp (sym (k .before .before .kind-of .ensures) ∙ k .enum-told2 .given .1, c .sign-fits2 .ensures, c .before .before .before .sign-fits .ensures))
-    (λ c. simp (sym (c .before .before .kind-of .ensures) ∙ c .enum-told3 .given .1))
-    (λ c. simp (sym (c .before .before .kind-of .ensures) ∙ c .enum-told4 .given .1)))
+    simp
+    (c .before .before .before .before .before .before .match .keys2, c .sign-fits2 .ensures, c .before .before .before .sign-fits .ensures))
+    (λ c. none-fits _ _ (c .match .rest .0 .1) (c .match .rest .1)))

@@ -32,7 +32,7 @@ put-state-requires : tie.Need-put-state-requires
 put-state-requires c κs =
     let f = c .before .before .before .before .before .before .before .before .before in
     let a = f .before .before .before .before .before .before .args in
-    let next = c .before .before .feed .ensures .next ∙ ap (λ l. nextOf l (a .byte)) (c .before .before .before .listener-of .ensures) in
+    let next = c .before .before .feed-end .ensures .next ∙ ap (λ l. nextOf l (a .byte)) (c .before .before .before .listener-of .ensures) in
     let small = next-fits _ (a .byte) (of-bytes (now (a .state)) (f .before .before .before .before .before .slice-known .given)) in
     (rooms (now (a .state)) (now (a .numbers)) (enough (f .before .both-fit .ensures) (f .if1 .left)) .0, rw next small)
 
@@ -41,7 +41,7 @@ returns-3 c =
     let s = c .before .before .before .before .before .before .before in
     let f = s .before .before .before .before .before .before .before .before .before .before in
     let b = f .before .before .before .before .before .before .args .byte in
-    let u = s .before .before .before .feed in
+    let u = s .before .before .before .feed-end in
     let is = s .before .before .before .before .listener-of .ensures in
     let answer = u .ensures .answer ∙ ap (λ l. answerTo l b) is in
     let next = u .ensures .next ∙ ap (λ l. nextOf l b) is in

@@ -36,7 +36,7 @@ returns : tie.Need-returns Inv-loop μ-loop
 returns c =
     let f = c .before .before .before .before in
     let q = f .before .before .before .before .before .before .before .loop in
-    let fed = rw (f .before .joined .ensures) at (f .feed .ensures) in
+    let fed = rw (f .before .joined .ensures) at (f .feed-end .ensures) in
     let some = sym (c .before .before .is-answer .ensures) ∙ c .before .if1 .taken in
     rw (c .ended .ensures) (answered _ _ _ (q .i) (q .inv .2) (omega arith) fed some)
 
@@ -44,7 +44,7 @@ loop-again-2 : tie.Need-loop-again-2 Inv-loop μ-loop
 loop-again-2 c =
     let f = c .before .before .before .before in
     let q = f .before .before .before .before .before .before .before .loop in
-    let fed = rw (f .before .joined .ensures) at (f .feed .ensures) in
+    let fed = rw (f .before .joined .ensures) at (f .feed-end .ensures) in
     let none = sym (c .before .before .is-answer .ensures) ∙ c .before .if1 .left in
     (omega arith, rw (fed .next) (next-long _ _ (q .inv .1)), goes-on _ _ _ (q .i) (q .inv .2) (omega arith) fed none)
 

@@ -1,4 +1,4 @@
--- Each byte is a number; the ring is a call.
+-- Each byte is a number; the ring and the form are calls.
 use Rattle.lindenscoop.specs.State.{listenerOf}
 use borrow.Author.Needs.{needs}
 use Rattle.lindenscoop.proofs.state.listener_of.Statement.{statement}
@@ -10,8 +10,8 @@ listener-of-spec =
     tie.close
     (tie.spec
     (λ c κs. search needs) (λ c. search needs) (λ c κs. search needs) (λ c. search needs) (λ c κs. search needs) (λ c. search needs)
-    (λ c κs. search needs) (λ c. search needs) (λ c κs. search needs)
+    (λ c κs. search needs) (λ c κs. search needs)
     (λ c.
-    let k = c .before .before .before .before in
+    let k = c .before .before .before in
     let r = k .before .before in
-    simp (c .wide-form .ensures, c .before .before .wide3 .ensures, k .wide2 .ensures, r .wide .ensures, r .before .before .ring-of .ensures)))
+    simp (c .form-in .ensures, c .before .wide3 .ensures, k .wide2 .ensures, r .wide .ensures, r .before .before .ring-of .ensures)))

@@ -7,7 +7,7 @@ pub move-on-spec : {M : Type 1} → statement M
 move-on-spec =
     tie.close
     (tie.spec
-    (λ c. search needs) (λ c κs. search needs) (λ c κs. search needs) (λ c κs. search needs) (λ c. search needs)
+    (λ c κs. search needs) (λ c κs. search needs) (λ c κs. search needs) (λ c. search needs)
     (λ c.
     let p = c .before .before .before .before .before .before in
-    c .before .before .put-numbers .ensures ∙ rw (p .put-byte .ensures, p .before .before .wide-form .ensures)))
+    c .before .before .put-numbers .ensures ∙ rw (p .put-byte .ensures, p .before .before .form-in .ensures)))

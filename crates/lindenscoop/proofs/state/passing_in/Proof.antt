@@ -9,10 +9,10 @@ unfolding listenerOf
 passing-in-spec =
     tie.close
     (tie.spec
-    (λ c. search needs) (λ c κs. search needs) (λ c κs. search needs) (λ c. search needs) (λ c κs. search needs) (λ c. search needs)
+    (λ c κs. search needs) (λ c κs. search needs) (λ c. search needs) (λ c κs. search needs) (λ c. search needs)
     (λ c κs. search needs) (λ c. search needs) (λ c κs. search needs) (λ c κs. search needs)
     (λ c.
     let d = c .before in
     let k = d .before .before in
     let f = k .before .before .before .before in
-    c .passing-of .ensures ∙ rw (d .wide3 .ensures, k .wide2 .ensures, k .before .before .wide .ensures, f .shape-of .ensures, f .before .wide-form .ensures)))
+    c .passing-of .ensures ∙ rw (d .wide3 .ensures, k .wide2 .ensures, k .before .before .wide .ensures, f .shape-of .ensures, f .before .form-in .ensures)))

@@ -39,7 +39,7 @@ loop-again-2 : tie.Need-loop-again-2 Inv-loop μ-loop
 loop-again-2 c =
     let m = c .before .before in
     let q = m .before .before .before .before .before .before .before .loop in
-    (omega arith, simp length-set (q .inv .1), search needs, q .inv .3 ∙ mark-step (q .marks) _ _ (q .i) (omega arith) (m .before .feed .ensures) (m .mark-of .ensures))
+    (omega arith, simp length-set (q .inv .1), search needs, q .inv .3 ∙ mark-step (q .marks) _ _ (q .i) (omega arith) (m .before .feed-end .ensures) (m .mark-of .ensures))
 
 pub mark-each-spec : {M : Type 1} → statement M
 mark-each-spec =

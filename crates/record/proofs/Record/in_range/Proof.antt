@@ -1,5 +1,5 @@
--- Each part of the record is tested by the function of its range, and all must hold.
-use borrow.Author.Needs.{needs}
+-- All of the record is in range where the date and the time are, and the rest.
+use Rattle.cond.proofs.Kit.{and-false, and-true, needs, not-false, not-true}
 use Rattle.record.specs.Record.{inRange}
 use Rattle.record.proofs.Record.in_range.Statement.{statement}
 use Rattle.record.proofs.Record.in_range.Tie as tie
@@ -9,8 +9,8 @@ unfolding inRange
 in-range-spec =
     tie.close
     (tie.spec
-    (λ c κs. search needs) (λ c κs. search needs) (λ c κs. search needs) (λ c κs. search needs) (λ c κs. search needs)
+    (λ c κs. search needs)
+    (λ c. simp (← c .before .rest-in-range .ensures, not-true (c .before .rest-in-range .result) (c .if1 .taken), and-false)) (λ c κs. search needs)
     (λ c.
-    let d = c .before .before in
-    simp (c .position-in-range .ensures, c .before .offset-in-range .ensures, d .channel-in-range .ensures)
-    (simp (d .before .fraction-in-range .ensures, d .before .before .date-time-in-range .ensures))))
+    let rest = c .before .before .rest-in-range in
+    simp (c .date-time-in-range .ensures, ← rest .ensures, not-false (rest .result) (c .before .if1 .left), and-true)))

@@ -1,0 +1,3 @@
+pub mod Minute
+pub mod Promise
+pub mod Known
