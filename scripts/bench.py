@@ -22,7 +22,9 @@ ROOT = pathlib.Path(__file__).resolve().parent.parent
 LIBRARY = ROOT / "target/staticlib/liblindenscoop.a"
 MADE = ROOT / "target/bench"
 CARGO = ROOT / "target/cargo"
-FORMS = {1: "Standard", 2: "Capture", 3: "Uni Erlangen", 4: "ABB SPA", 5: "RACAL", 6: "SYSPLEX-1", 7: "Computime"}
+FORMS = {1: "Standard", 2: "Capture", 3: "Uni Erlangen", 4: "ABB SPA", 5: "RACAL", 6: "SYSPLEX-1", 7: "Computime", 10: "SAT"}
+# the forms that the program heard takes; it refuses the line of any other, and then there is nothing to measure
+HEARD_FORMS = range(1, 8)
 KINDS = {"dense": "strings back to back", "sparse": "one string in 960 bytes", "noise": "random bytes"}
 STREAM_WAYS = ("search", "heard", "feed", "feed_all", "mark")
 STRING_WAYS = ("read", "write", "block")
@@ -82,7 +84,7 @@ def heard_output(side, data):
 
 def compare(sides):
     print(output([MADE / "compare", "1", "10000"]).decode(), end="", file=sys.stderr)
-    inputs = [b"", b"1", b"8\n", b"0\n", b"1x", b"\n", b"7\n"]
+    inputs = [b"", b"1", b"8\n", b"0\n", b"1x", b"\n", b"7\n", b"10", b"10\n", b":\n"]
     inputs += [stream(form, kind, COUNTED).read_bytes() for form in FORMS for kind in (*KINDS, "damaged")]
     for data in inputs:
         if len({heard_output(side, data) for side in sides}) != 1:
@@ -115,7 +117,8 @@ def counts(form, kind):
             found.setdefault(way, set()).add(strings)
             units = COUNTED if way in STREAM_WAYS else int(strings)
             counted[way, side] = by_way[way] / max(units, 1)
-        counted["heard", side] = (callgrind(HEARD[side], input=path.read_bytes())[0] - start_up(side)) / COUNTED
+        if form in HEARD_FORMS:
+            counted["heard", side] = (callgrind(HEARD[side], input=path.read_bytes())[0] - start_up(side)) / COUNTED
     if any(len(strings) > 1 for strings in found.values()):
         sys.exit(f"bench: form {form}, {kind}: not the same strings: {found}")
     return counted
@@ -138,7 +141,8 @@ def speeds(form, kind):
         for line in output([WAYS[side], short, str(ROUNDS)]).decode().splitlines():
             way, _, speed = line.split()
             fast[way, side] = float(speed)
-        fast["heard", side] = max(timed(HEARD[side], short if side == "second" else long) for _ in range(ROUNDS))
+        if form in HEARD_FORMS:
+            fast["heard", side] = max(timed(HEARD[side], short if side == "second" else long) for _ in range(ROUNDS))
     return fast
 
 
@@ -155,8 +159,11 @@ def head(title, ways):
 
 
 def cells(figures, ways, places):
-    """`library / C program / second program (library to C, library to second)` for each way."""
+    """`library / C program / second program (library to C, library to second)` for each way, `-` for one that the form does not have."""
     for way in ways:
+        if (way, "library") not in figures:
+            yield "-"
+            continue
         ours, plain, second = figures[way, "library"], figures[way, "C"], figures[SECOND_WAY.get(way, way), "second"]
         yield f"{ours:.{places}f} / {plain:.{places}f} / {second:.{places}f} ({ours / plain:.2f}, {ours / second:.2f})"
 

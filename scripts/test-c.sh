@@ -38,13 +38,20 @@ if $cc -std=c11 -Werror -I$include -c "$made/unlooked.c" -o "$made/unlooked.o" 2
 fi
 
 $cc -O2 -std=c99 $warn -I$include bindings/c/examples/heard_csv.c "$lib" -o "$made/heard_csv"
-for form in 1 2 3 4 5 6 7; do
+for form in 1 2 3 4 5 6 7 10; do
     log=tests/csv/form-$form
     if [ -n "${REFERENCE:-}" ]; then
         scripts/expect-csv.sh "$REFERENCE" $form "$log.log" | cmp - "$log.csv"
     fi
     "$made/heard_csv" $form "$log.log" | cmp - "$log.csv"
     "$made/heard_csv" $form < "$log.log" | cmp - "$log.csv"
+done
+for form in 0 8 9 11 05 010 100 sat ''; do
+    if "$made/heard_csv" "$form" samples/standard.log >"$made/other.csv" 2>"$made/other.log" \
+        || ! grep -q 'refused with 1:' "$made/other.log" || [ -s "$made/other.csv" ]; then
+        echo "test-c: heard_csv takes \"$form\" for a form" >&2
+        exit 1
+    fi
 done
 if [ -w /dev/full ] && "$made/heard_csv" 1 samples/standard.log >/dev/full 2>"$made/full.log"; then
     echo 'test-c: heard_csv calls a full disk a success' >&2

@@ -20,13 +20,18 @@ import termios
 import time
 
 ROOT = pathlib.Path(__file__).resolve().parent.parent
-NAMES = ["standard", "capture", "erlangen", "spa", "racal", "sysplex", "computime"]
+# Name and length of each form that can be listened for.
+FORMS = {1: ("standard", 32), 2: ("capture", 31), 3: ("erlangen", 66), 4: ("spa", 32), 5: ("racal", 16), 6: ("sysplex", 16), 7: ("computime", 24),
+         10: ("sat", 29)}
 A = b"\x02D:01.01.24;T:1;U:12.00.00;  U \x03"
 BLOCK = (b"date=24-01-01\ntime=12:00:00\nfraction=-\nchannel=-\nsync=yes\nfix=yes\nutc=yes\nsummer=no\nchange=no\nleap=no\n"
          b"offset=-\nposition=-\ndsp=-\nlsp=-\n\n")
 RACAL = b"XGU000229000000\r"
 SYSPLEX = b"\x01366:23:59:60?\r\n"
 COMPUTIME = b"T:24:01:01:01:12:00:00\r\n"
+SAT = b"\x0201.01.24/1/12:00:00UTC   \r\n\x03"
+SAT_BLOCK = (b"date=24-01-01\ntime=12:00:00\nfraction=-\nchannel=-\nsync=yes\nfix=-\nutc=yes\nsummer=no\nchange=no\nleap=-\n"
+             b"offset=-\nposition=-\ndsp=-\nlsp=-\n\n")
 ERLANGEN = b"\x0201.01.24; 1; 13:00:00; +00:00; #*     ;  0.0000N   0.0000E    0m\x03"
 SECONDS = 10
 
@@ -101,10 +106,19 @@ def test_usage():
              ["listen", "-", "--form", "0"], ["listen", "-", "--form"], ["listen", "-", "--form", "1", "--baud", "fast"],
              ["listen", "-", "--form", "1", "--framing", "9N1"], ["listen", "-", "--form", "1", "--loud"],
              ["export", "--form", "1", "-"], ["export", "--json", "--csv", "--form", "1", "-"], ["export", "--csv", "--form", "1"],
-             ["why"], ["why", "-", "-"], ["write"], ["write", "racl"], ["write", "10"]]
+             ["why"], ["why", "-", "-"], ["write"], ["write", "racl"], ["write", "11"], ["listen", "-", "--form", "11"],
+             ["listen", "-", "--form", "block"], ["export", "--csv", "--form", "8", "-"], ["write", "010"]]
     for words in wrong:
         status, out, error = run(*words)
         check("usage of %s" % words, status == 2 and out == b"" and "--help" in error, (status, error))
+    numbered = ", ".join("%s (%d)" % (name, form) for form, (name, _) in FORMS.items())
+    error = run("listen", "-", "--form", "frame")[2]
+    check("a form that is not listened for", numbered in error and "frame is not listened" in error, error)
+    names = [name for name, _ in FORMS.values()]
+    for words in (["listen", "-"], ["write"], ["simulate"]):
+        error = run(*words)[2]
+        check("the forms are named: %s" % words, all(name in error for name in names), error)
+        check("those that are not listened for: %s" % words, ("block" in error) == (words[0] != "listen"), error)
 
 
 # ---- listen ----
@@ -113,12 +127,17 @@ def test_listen_pipe():
     for form in ["standard", "1", "Standard"]:
         status, out, error = run("listen", "-", "--form", form, given=b"D:0" + A)
         check("listen to a pipe for " + form, (status, out) == (0, BLOCK) and "end bytes=35 telegrams=1" in error, (status, error))
+    for form in ["sat", "10", "SAT"]:
+        status, out, error = run("listen", "-", "--form", form, given=b"D:0\x02" + SAT + SAT[:28])
+        check("listen to a pipe for " + form, (status, out) == (0, SAT_BLOCK) and "end bytes=61 telegrams=1" in error, (status, error))
     status, out, error = run("listen", "-", "--form", "racal", given=A)
     check("nothing heard", (status, out) == (1, b"") and "telegrams=0" in error, (status, error))
 
 
 def test_listen_like_heard():
-    for form, name in enumerate(NAMES, 1):
+    # the program heard takes these alone
+    for form in range(1, 8):
+        name = FORMS[form][0]
         given = (ROOT / ("tests/heard/form_%d.in" % form)).read_bytes()[2:]
         wanted = (ROOT / ("tests/heard/form_%d.out" % form)).read_bytes()
         _, out, error = run("listen", "-", "--form", name, given=given)
@@ -127,7 +146,7 @@ def test_listen_like_heard():
 
 def test_listen_port():
     """A pseudo-terminal in its default mode: ETX would be the interrupt key, CR become LF."""
-    for name, string in [("standard", A), ("racal", RACAL), ("computime", COMPUTIME)]:
+    for name, string in [("standard", A), ("racal", RACAL), ("computime", COMPUTIME), ("sat", SAT)]:
         clock, port = pty.openpty()
         before = termios.tcgetattr(port)
         process = start("listen", os.ttyname(port), "--form", name, "--baud", "9600")
@@ -274,7 +293,7 @@ def as_cell(key, value):
 
 
 def test_export():
-    for form, name in enumerate(NAMES, 1):
+    for form, (name, _) in FORMS.items():
         wanted = log(form).with_suffix(".csv").read_text()
         status, out, _ = run("export", "--csv", "--form", name, str(log(form)))
         rows = list(csv.DictReader(io.StringIO(out.decode())))
@@ -293,6 +312,9 @@ def test_export_absent():
     check("absent is null", len(line) == 18 and all(line[key] == sent.get(key) for key in line), out)
     _, out, _ = run("export", "--csv", "--form", "racal", "-", given=b".." + RACAL)
     check("absent is an empty cell", out.splitlines()[1] == b"2,2000-02-29,,00:00:00" + b"," * 14, out)
+    line = json.loads(run("export", "--json", "--form", "sat", "-", given=SAT.replace(b"UTC   ", b"CEST#!"))[1])
+    sent = {"place": 0, "date": "2024-01-01", "time": "12:00:00", "sync": False, "utc": False, "summer": True, "change": True}
+    check("what a SAT string carries", len(line) == 18 and all(line[key] == sent.get(key) for key in line), line)
     line = json.loads(run("export", "--json", "--form", "3", "-", given=ERLANGEN)[1])
     zero = [line[key] for key in ("offset", "latitude", "longitude", "altitude", "utc")]
     check("zero that was sent", zero == ["+00:00", 0, 0, 0, None], line)
@@ -387,7 +409,7 @@ def even_parity(given):
 
 def test_why():
     why("heard", A * 2, "1 standard   strings heard: 2\n", "5 racal      strings heard: 0\n", status=0)
-    why("empty file", b"", "the file is empty", "7 computime  strings heard: 0")
+    why("empty file", b"", "the file is empty", "\n   7 computime  strings heard: 0\n  10 sat        strings heard: 0\n")
     why("sum", b">900WD:24-01-01 12.00;00.000:00\r", "1 near miss", "refused with 6: the SPA sum", "at byte 29, its byte 29: in the checksum")
     why("weekday", b".." + A.replace(b"T:1", b"T:2"), "refused with 5: two parts disagree", "begins at byte 2 and fails at byte 16", "the weekday")
     why("weekday of erlangen", ERLANGEN.replace(b"; 1;", b"; 2;"), "refused with 5", "the weekday, which is \"2\"")
@@ -411,6 +433,45 @@ def test_why():
     why("other text", b"hello\r\n" * 20, "of none of these forms")
 
 
+def test_why_sat():
+    """What befalls SAT strings: ends that a recorder drops or turns, and clocks by the manuals whose words are not taken."""
+    why("SAT heard", SAT * 2, "10 sat        strings heard: 2\n", " 3 erlangen   strings heard: 0\n", status=0)
+    german = b"".join(SAT.replace(b"UTC ", word) for word in (b"MEZ ", b"MESZ", b"MEZ "))
+    only = "Only UTC, CET and CEST are taken, the words of manual 004"
+    why("German zones", german, "10 sat        strings heard: 0, 3 near misses", "3 refused with 3", "fails at byte 20, its byte 20: \"MEZ \" in the zone",
+        "the zone is MEZ or MESZ", only, "strings of sat heard: 3")
+    why("some German zones", SAT + german, "strings heard: 1, 3 near misses", only, "strings of sat heard: 4", status=0)
+    out = run("why", "-", given=german)[1]
+    check("why: one hint on zones", out.count(b"hint:") == 1 and b"'*'" not in out, out)
+    for word in (b"UTC ", b"MEZ "):
+        why("position for sync, %s" % word, SAT.replace(b"UTC  ", word + b"*") * 2, "is '*', which tells of the position", "strings of sat heard: 2")
+    check("why: no hint on words that are right", b"hint:" not in run("why", "-", given=SAT + SAT.replace(b"/1/", b"/2/"))[1], "")
+    why("zone", SAT.replace(b"UTC ", b"CETS"), "refused with 3", "\"CETS\" in the zone, which is \"UTC \", \"CET \" or \"CEST\"")
+    why("weekday of SAT", SAT.replace(b"/1/", b"/3/"), "refused with 5", "the weekday, which is \"3\"")
+    why("SAT with CR removed", (SAT * 3).replace(b"\r", b""), "no CR left", "strings of sat heard: 3")
+    why("SAT with CR become LF", (SAT * 3).replace(b"\r", b"\n"), "not raw", "strings of sat heard: 3")
+    why("SAT without STX and ETX", (SAT * 3).replace(b"\x02", b"").replace(b"\x03", b""), "STX and ETX", "strings of sat heard: 3")
+    why("SAT with ETX as the interrupt key", (SAT * 3).replace(b"\r", b"\n").replace(b"\x03", b""), "interrupt key", "strings of sat heard: 3")
+    why("SAT with parity", even_parity(SAT * 3), "parity", "strings of sat heard: 3")
+    why("SAT from a screen", (SAT * 3).replace(b"\x02", b"<STX>").replace(b"\r\n\x03", b"<CR><LF><ETX>"), "spelled out", "strings of sat heard: 3")
+
+
+def test_why_tells_forms_apart():
+    """Standard, Erlangen and SAT strings all begin with STX; of each the form is told, and no other is near."""
+    strings = {"standard": A, "erlangen": ERLANGEN, "sat": SAT}
+    for name, string in strings.items():
+        status, out, _ = run("why", "-", given=string * 3)
+        heard = [line.split() for line in out.decode().splitlines() if "strings heard" in line]
+        told = [(words[1], words[4:]) for words in heard]
+        wanted = [(form, ["3"] if form == name else ["0"]) for form, _ in FORMS.values()]
+        check("why tells apart: " + name, (status, told) == (0, wanted), out.decode())
+    out = run("why", "-", given=b"".join(strings.values()) * 2)[1].decode()
+    for name in strings:
+        check("why counts each of a mixed stream: " + name, " %-10s strings heard: 2\n" % name in out and "near" not in out, out)
+        places = [line.split(b",")[0] for line in run("export", "--csv", "--form", name, "-", given=b"".join(strings.values()))[1].splitlines()[1:]]
+        check("export finds its own alone: " + name, len(places) == 1, places)
+
+
 def test_why_dumps():
     given = COMPUTIME * 5
     lines = [given[at:at + 16] for at in range(0, len(given), 16)]
@@ -431,11 +492,10 @@ def test_why_dumps():
 # ---- write ----
 
 def test_write_back():
-    for form, name in enumerate(NAMES, 1):
+    for form, (name, length) in FORMS.items():
         given = log(form).read_bytes()
         lines = run("export", "--json", "--form", name, "-", given=given)[1]
         places = [json.loads(line)["place"] for line in lines.splitlines()]
-        length = [32, 31, 66, 32, 16, 16, 24][form - 1]
         wanted = b"".join(given[place:place + length] for place in places)
         status, out, error = run("write", name, given=lines)
         check("written again: " + name, status == 0 and places and out == wanted, (status, error, out[:80]))
@@ -453,6 +513,24 @@ def test_write_other_forms():
     check("write a frame", status == 0 and len(out) == 100 and ones == [30, 52, 56, 75], (status, ones, error))
     status, out, error = run("write", "sysplex", given=b'{"date":"2023-12-31","time":"23:59:59","sync":true}')
     check("day of year of a date", out == b"\x01365:23:59:59 \r\n", (status, out, error))
+
+
+def test_write_sat():
+    """A record with sync and without, in each zone; what the form does not carry is not asked for, and what it carries is."""
+    head = b'{"date":"2024-01-01","time":"12:00:00","change":false,'
+    zones = {b'"utc":true,"summer":false': b"UTC ", b'"utc":false,"summer":false': b"CET ", b'"utc":false,"summer":true': b"CEST"}
+    for zone, word in zones.items():
+        for sync, letter in ((b"true", b" "), (b"false", b"#")):
+            line = head + zone + b',"sync":' + sync + b"}"
+            status, out, error = run("write", "sat", given=line)
+            check("write %s, sync %s" % (word, sync), (status, out) == (0, SAT.replace(b"UTC  ", word + letter)), (status, out, error))
+            out = run("write", "10", given=line.replace(b'"change":false', b'"change":true,"leap":true,"fix":false'))[1]
+            check("write %s before a change" % word, out == SAT.replace(b"UTC   ", word + letter + b"!"), out)
+    for key in (b'"sync":null', b'"fix":true'):
+        status, out, error = run("write", "sat", given=head + b'"utc":true,"summer":false,' + key + b"}")
+        check("write SAT without sync: %s" % key, (status, out) == (1, b"") and "sat refused with 8" in error, (status, out, error))
+    status, out, error = run("write", "sat", given=head + b'"utc":true,"summer":true,"sync":true}')
+    check("write SAT in utc and summer", (status, out) == (1, b"") and "sat refused with 7" in error, (status, out, error))
 
 
 def test_write_refused():
@@ -480,7 +558,7 @@ def test_write_refused():
 # ---- simulate ----
 
 def test_simulate_pipe():
-    for name in NAMES:
+    for name, _ in FORMS.values():
         clock = start("simulate", name, "--count", "40", "--interval", "0", "--damage", "4")
         status, out, error = run("export", "--json", "--form", name, "-", stdin=clock.stdout)
         clock.stdout.close()

@@ -191,6 +191,21 @@ class Trial:
                 for word in (name, str(number)):
                     self.same(place.run(word)[:2], (0, b"%d\n" % number), f"form {word}")
 
+    def test_other_forms(self):
+        """Forms that the library has and this program does not take: what is said must help."""
+        with self.place() as place:
+            told = {word: place.run(word, given=b"bytes") for word in ("10", "sat", "SAT", "8", "9", "frame", "block", "0", "11", "radio")}
+            for word, (status, out, error) in told.items():
+                self.same((status, out), (2, b""), f"form {word}")
+                if word in ("10", "sat", "SAT"):
+                    for wanted in ("SAT (form 10)", "lindenscoop listen FILE --form sat", "lindenscoop export --csv --form sat FILE", "\"The command\""):
+                        self.check(wanted in error, f"form {word}: {wanted} is not said: {error}")
+                else:
+                    wanted = f"form {word} is not listened for" if word in ("8", "9", "frame", "block") else f"there is no form \"{word}\""
+                    self.check(wanted in error and "or 1 to 7" in error and "sat (10)" in error, f"form {word}: {error}")
+            self.same(place.called(), [], "rt was called for a form that is not taken")
+        self.check("\n## The command\n" in (ROOT / "README.md").read_text(encoding="utf-8"), "README.md has no section that is named")
+
     def test_wrong_calls(self):
         with self.place() as place:
             (place.home / "log").write_bytes(b"")
@@ -211,7 +226,8 @@ class Trial:
             for word in ("--help", "-h"):
                 status, out, error = place.run(word)
                 self.same((status, error), (0, ""), word)
-                for wanted in (b"FORM [FILE]", b"standard input", b"minutes", b"status: 0", b" 1 not proved", b" 2 a wrong", b" 3 there is", b" 4 the"):
+                for wanted in (b"FORM [FILE]", b"lindenscoop listen FILE --form sat", b"standard input", b"minutes", b"status: 0", b" 1 not proved",
+                               b" 2 a wrong", b" 3 there is", b" 4 the"):
                     self.check(wanted in out, f"{word} does not say {wanted}")
 
     # ---- the kit
@@ -415,6 +431,11 @@ FAULTS = [
     ("|| echo run >&3", "|| true"),
     ("|| echo write >&3", "|| true"),
     ("grep -v ", "grep "),
+    ("10 | [sS][aA][tT]) fail", "10 | sat) fail"),
+    ("10 | [sS][aA][tT]) fail", "sat | SAT) fail"),
+    ("8 | frame | 9 | block) fail", "8 | frame | block) fail"),
+    ('"lindenscoop listen FILE --form sat, or', '"or'),
+    ("\nlindenscoop listen FILE --form sat\n", "\n"),
 ]
 
 

@@ -181,13 +181,18 @@ def test_command(prefix, _):
 
 
 def command_words(prefix):
-    """What the command itself takes: options of each subcommand, the forms that can be listened for, all forms."""
+    """What the command itself takes: options of each subcommand, the forms that can be listened for, all forms with their numbers."""
     command = prefix / "bin/lindenscoop"
     helps = [run(command, *words, "--help").stdout for words in [[]] + [[name] for name in COMMANDS]]
     named = sorted(set(re.findall(r"--[a-z]+", "".join(helps))))
     options = {name: {word for word in named if "there is no option" not in run(command, name, word).stderr} for name in COMMANDS}
-    serial, every = (re.findall(r"(\w+) \(\d\)", run(command, *words).stderr) for words in (["listen", "-", "--form", "9"], ["write", "none"]))
-    return options, serial, every
+    serial, every = (dict(re.findall(r"(\w+) \((\d+)\)", run(command, *words).stderr)) for words in (["listen", "-", "--form", "9"], ["write", "none"]))
+    return options, list(serial), every
+
+
+def other_forms(serial, every):
+    """The forms that are not listened for, as the completions for zsh and fish name them."""
+    return " ".join(name for name in every if name not in serial)
 
 
 def test_words(prefix, _):
@@ -196,7 +201,8 @@ def test_words(prefix, _):
     same("subcommands", re.findall(r"\w+", told.split("one of ")[1].split("\n")[0]), COMMANDS)
     options, serial, every = command_words(prefix)
     same("how many options", [len(options[name]) for name in COMMANDS], [5, 6, 1, 1, 8])
-    same("how many forms", (len(serial), len(every), every[:7]), (7, 9, serial))
+    same("how many forms", (len(serial), len(every), other_forms(serial, every)), (8, 10, "frame block"))
+    same("their numbers", list(every.values()), [str(number) for number in range(1, 11)])
 
 
 def rendered(prefix, section):
@@ -225,7 +231,7 @@ def test_manual_of_the_command(prefix, _):
         calls = re.findall(rf"^lindenscoop {name}\b.*(?:\n  .*)*", usage, re.M)
         same(f"options of {name} in the synopsis", set(re.findall(r"--[a-z]+", "".join(calls))), options[name] - {"--help"})
     text = re.sub(r"\s+", " ", rendered(prefix, "1"))
-    for number, name in enumerate(every, 1):
+    for name, number in every.items():
         check(f"form {name} in the manual", f"{name} ({number})" in text, "")
     for words in ("--help, -h", "--version, -V", "EXIT STATUS 0 ", " 1 nothing", " 2 the call", " 3 a read"):
         check(f"{words!r} in the manual", words in text, "")
@@ -241,6 +247,10 @@ def test_manual_of_the_library(prefix, _):
     numbers = dict(re.findall(r"^    (LINDENSCOOP_\w+) = (\d+)", header, re.M))
     refusals = re.findall(r'case (LINDENSCOOP_\w+):\n        return "(.*)";', header)[1:-1]
     same("how many refusals", len(refusals), 13)
+    forms = re.findall(r"^    (LINDENSCOOP_\w+) = (\d+)", header.split("/* The forms.")[1].split("};")[0], re.M)
+    same("how many forms in the header", len(forms), 10)
+    for name, number in forms:
+        check(f"{name} in the manual", f"{name} ({number})" in text, number)
     for name, meaning in refusals:
         check(f"{name} in the manual", f" {numbers[name]} {name}: {meaning} " in text, meaning)
 
@@ -284,7 +294,7 @@ def test_zsh_text(prefix, _):
     options, serial, every = command_words(prefix)
     text = (prefix / "share/zsh/site-functions/_lindenscoop").read_text()
     check("zsh: bound", text.startswith("#compdef lindenscoop\n"), text[:40])
-    same("zsh: forms", re.search(r"serial=\((.*)\)\n\s*all=\(\$serial (.*)\)", text).groups(), (" ".join(serial), " ".join(every[7:])))
+    same("zsh: forms", re.search(r"serial=\((.*)\)\n\s*all=\(\$serial (.*)\)", text).groups(), (" ".join(serial), other_forms(serial, every)))
     same("zsh: commands", re.findall(r'(\w+)\\:"', text), [*COMMANDS, "help"])
     port = set(re.findall(r"'(--[a-z]+)=", re.search(r"port=\((.*?)\n    \)", text, re.S)[1]))
     for name in COMMANDS:
@@ -298,7 +308,7 @@ def test_zsh_text(prefix, _):
 def test_fish_text(prefix, _):
     options, serial, every = command_words(prefix)
     text = (prefix / "share/fish/vendor_completions.d/lindenscoop.fish").read_text()
-    same("fish: forms", re.search(r"set -l serial (.*)\nset -l all \$serial (.*)\n", text).groups(), (" ".join(serial), " ".join(every[7:])))
+    same("fish: forms", re.search(r"set -l serial (.*)\nset -l all \$serial (.*)\n", text).groups(), (" ".join(serial), other_forms(serial, every)))
     same("fish: commands", re.findall(r"-n __fish_use_subcommand -f -a (\w+)", text), [*COMMANDS, "help"])
     rows = re.findall(r"^complete -c lindenscoop(?: -n '__fish_seen_subcommand_from ([a-z ]+)')?(?= -[fla])(.*)$", text, re.M)
     for name in COMMANDS:

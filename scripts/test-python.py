@@ -23,6 +23,8 @@ import traceback
 
 ROOT = pathlib.Path(__file__).resolve().parent.parent
 FLAGS = ("sync", "fix", "utc", "summer", "change", "leap", "dsp", "lsp")
+#: the forms that search and listener take
+SERIAL = {1, 2, 3, 4, 5, 6, 7, 10}
 counts = {True: 0, False: 0}
 
 
@@ -165,6 +167,34 @@ def test_streams():
         same(listener.fed, len(data), f"form {form}: bytes fed")
 
 
+def cells(record):
+    """A record as a row of CSV, in the columns of bindings/heard_csv.columns."""
+    date, fraction, offset, position = record.date, record.fraction, record.offset, record.position
+    flags = ["" if value is None else "yes" if value else "no" for value in (getattr(record, name) for name in FLAGS)]
+    full = f"{date.year}-{date.month:02}-{date.day:02}" if isinstance(date, ls.Date) else ""
+    day = str(date.day) if isinstance(date, ls.DayOfYear) else ""
+    time = f"{record.hour:02}:{record.minute:02}:{record.second:02}"
+    minutes = "" if offset is None else "%s%02d:%02d" % ("-" if offset < 0 else "+", *divmod(abs(offset), 60))
+    degrees = [f"{value / 10000:.4f}" for value in (position.latitude, position.longitude)] + [str(position.altitude)] if position else [""] * 3
+    channel = "" if record.channel is None else str(record.channel)
+    return ",".join([full, day, time, str(fraction or ""), channel, *flags[:6], minutes, *degrees, *flags[6:]])
+
+
+def test_logs():
+    """The logs of every serial form whose rows are known."""
+    logs = sorted((ROOT / "tests/csv").glob("form-*.log"))
+    same({int(path.stem[5:]) for path in logs}, SERIAL, "the forms of the logs")
+    for path in logs:
+        form, data, rows = int(path.stem[5:]), path.read_bytes(), path.with_suffix(".csv").read_text().splitlines()[1:]
+        strings = list(ls.heard(form, data))
+        same([cells(found.record) for found in strings], rows, path.name)
+        same(repeated_search(form, data), strings, f"{path.name}: repeated search")
+        same(list(ls.heard(form, Dripping(data, 7))), strings, f"{path.name}: in pieces")
+        for place, record in strings:
+            string = ls.write(form, record)
+            same(data[place : place + len(string)], string, f"{path.name}: the string at {place}")
+
+
 def repeated_search(form, data):
     strings, start = [], 0
     while True:
@@ -274,7 +304,7 @@ def test_bad_records_are_refused():
     for fields in bad_records():
         record = ls.Record(**fields)
         same(number_of(ls.write, "block", record), 7, f"{fields}")
-        same(number_of(ls.write, 10, record), 1, f"{fields}, of a form that there is not")
+        same(number_of(ls.write, 11, record), 1, f"{fields}, of a form that there is not")
 
 
 def test_values_of_another_type():
@@ -315,26 +345,52 @@ def test_refused():
 
 
 def test_forms():
-    names = ("standard", "capture", "erlangen", "spa", "racal", "sysplex", "computime", "frame", "block")
+    names = ("standard", "capture", "erlangen", "spa", "racal", "sysplex", "computime", "frame", "block", "sat")
     same([form.name.lower() for form in ls.Form], list(names), "the forms")
     for number, name in enumerate(names, 1):
-        string = b"" if number < 9 else ls.write("block", ls.Record())
+        string = ls.write("block", ls.Record()) if name == "block" else b""
         for form in (number, name, name.upper(), str(number), ls.Form(number)):
-            same(number_of(ls.read, form, string), 2 if number < 9 else 0, f"form {form!r}")
+            same(number_of(ls.read, form, string), 0 if name == "block" else 2, f"form {form!r}")
     same(ls.read("racal", b"XGU000229000000\r").date, ls.Date(2000, 2, 29), "racal")
-    for form in (0, 10, 77, -1, 2**32, 2**32 + 5, 2**64 + 5, "", "0", "10", "05", " 5", "radio"):
+    for form in (0, 11, 77, -1, 2**32, 2**32 + 5, 2**64 + 5, "", "0", "11", "05", " 5", "010", "radio"):
         same(number_of(ls.read, form, b"XGU000229000000\r"), 1, f"form {form!r}")
-    check("racal (5), " in raises(ls.Refused, ls.read, "radio", b""), "an unknown name is not told which names there are")
+    told = raises(ls.Refused, ls.read, "radio", b"")
+    check("racal (5), " in told and told.endswith("sat (10)"), "an unknown name is not told which names there are")
     for form in (None, 5.0, True, b"racal"):
         check("name or a number" in raises(TypeError, ls.read, form, b""), f"form {form!r}")
 
 
 def test_forms_that_are_not_serial():
     """Refused at the call, not at the first record."""
-    for form in (0, 8, 9, 10, "frame", "block", 2**32 + 5):
+    for form in (0, 8, 9, 11, 15, 26, "frame", "block", 2**32 + 5, 2**32 + 10):
         same(number_of(ls.heard, form, b"XGU000229000000\r"), 1, f"heard {form!r}")
         same(number_of(ls.Listener, form), 1, f"Listener {form!r}")
         same(number_of(ls.search, form, b"XGU000229000000\r"), 1, f"search {form!r}")
+
+
+def test_serial_forms():
+    for form in ls.Form:
+        serial = form in SERIAL
+        same(number_of(ls.Listener, form), 0 if serial else 1, f"Listener {form!r}")
+        same(number_of(ls.search, form, b""), 12 if serial else 1, f"search {form!r}")
+    check(SERIAL < set(ls.Form), "a serial form without a name")
+
+
+def test_sat():
+    """Strings that were worked out by hand from document 02 and manual 004."""
+    record = ls.Record(12, date=ls.Date(2024, 1, 1), sync=True, utc=True, summer=False, change=False)
+    string = b"\x0201.01.24/1/12:00:00UTC   \r\n\x03"
+    same(ls.read("sat", string), record, "a SAT string")
+    same(ls.write(ls.Form.SAT, record), string, "a SAT string, written")
+    flagged = dataclasses.replace(record, sync=False, utc=False, summer=True, change=True)
+    same(ls.write("sat", flagged), string.replace(b"UTC   ", b"CEST#!"), "a SAT string without sync, in summer, before a change")
+    same(ls.read("sat", string.replace(b"UTC ", b"CET ")), dataclasses.replace(record, utc=False), "a SAT string in winter")
+    zones = (b"UTC ", b"MEZ ", 3), (b"UTC ", b"MESZ", 3), (b"UTC ", b" UTC", 3)
+    for old, new, number in (*zones, (b"UTC  ", b"UTC *", 3), (b"/1/", b"/8/", 4), (b"/1/", b"/2/", 5), (b"\r\n", b"", 2)):
+        same(number_of(ls.read, "sat", string.replace(old, new)), number, f"a SAT string with {new!r}")
+    for name in ("date", "sync", "utc", "summer", "change"):
+        same(number_of(ls.write, "sat", dataclasses.replace(record, **{name: None})), 8, f"a SAT string without {name}")
+    same([found.place for found in ls.heard("sat", b"." + string + string[:9] + string)], [1, 39], "SAT strings in a stream")
 
 
 def test_search():

@@ -19,7 +19,9 @@ import traceback
 
 ROOT = pathlib.Path(__file__).resolve().parent.parent
 MARKS = {"<SOH>": b"\x01", "<STX>": b"\x02", "<ETX>": b"\x03", "<LF>": b"\n", "<CR>": b"\r"}
-SERIAL = "standard capture erlangen spa racal sysplex computime".split()
+# the forms that search and listener take, and by their names those that the program heard takes, 1 to 7
+SERIAL = {1, 2, 3, 4, 5, 6, 7, 10}
+HEARD = "standard capture erlangen spa racal sysplex computime".split()
 LEFT_OUT = "[..]"
 
 
@@ -49,13 +51,22 @@ def read_again(form, data):
         return refused.number
 
 
+def carried(form, data):
+    """What a string carries beside time, in the words of the table."""
+    record = ls.read(form, data)
+    words = {name for name in ("channel", "sync", "fix", "utc", "summer", "change", "leap", "offset", "position", "dsp", "lsp")
+             if getattr(record, name) is not None}
+    words |= {{3: "thousandths", 7: "ten-millionths"}[record.fraction.digits]} if record.fraction else set()
+    return words | {"full date" if isinstance(record.date, ls.Date) else "day of year"}
+
+
 @functools.lru_cache(maxsize=None)
 def printed(command):
     """What a command of the README prints."""
     words = command.split()
     if words[0] == "scripts/heard":
         # what the script runs; scripts/test-first-command.py tries the script
-        form = words[1] if words[1].isdigit() else SERIAL.index(words[1]) + 1
+        form = int(words[1]) if words[1].isdigit() else HEARD.index(words[1]) + 1
         given, words = b"%d\n" % form + (ROOT / words[2]).read_bytes(), [ROOT / "target/bin/heard"]
     else:
         given, words[0] = b"", program if words[0] == "lindenscoop" else words[0]
@@ -94,12 +105,14 @@ class Trial:
     def test_strings(self):
         forms = section(self.text, "The forms")
         table = {int(row[0]): row for row in rows(forms) if row[0].isdigit()}
-        self.same(list(table), list(range(1, 10)), "the forms of the table")
+        self.same(list(table), [int(form) for form in ls.Form], "the forms of the table")
         for form, row in table.items():
             self.same(row[1], f"`{ls.Form(form).name.lower()}`", f"the name of form {form}")
         lines = fenced(forms, "text")[0].splitlines()
-        self.same([line[:3] for line in lines], [start for form in range(1, 9) for start in (f"{form}  ", "   ")], "layouts and strings in turn")
-        for form, layout, string in zip(range(1, 9), lines[::2], lines[1::2]):
+        # the block is shown by what heard prints
+        shown = [form for form in table if form != 9]
+        self.same([line[:3] for line in lines], [start for form in shown for start in (f"{form:<3}", "   ")], "layouts and strings in turn")
+        for form, layout, string in zip(shown, lines[::2], lines[1::2]):
             data = decoded(string[3:])
             if form == 8:
                 data = bytes(map(int, string[3:]))
@@ -108,6 +121,8 @@ class Trial:
             self.same(len(data), number(table[form][3]), f"the length of the string of form {form}")
             self.same(len(decoded(layout[3:])), len(data), f"the length of the layout of form {form}")
             self.same(read_again(form, data), data, f"the string of form {form}, read and written again")
+            self.same(set(table[form][4].split(", ")), carried(form, data), f"what form {form} carries")
+        self.same(table[9][4], "every field", "what form 9 carries")
         shortest, longest = map(number, table[9][3].split(" to "))
         flags = dict.fromkeys(("sync", "fix", "summer", "change", "leap", "dsp", "lsp"), True)
         full = ls.Record(23, 59, 60, ls.Date(2024, 2, 29), ls.Fraction(1, 7), 1, utc=False, offset=-840, position=ls.Position(1, 1, 1), **flags)
@@ -150,8 +165,9 @@ class Trial:
         constants = {name: int(value) for name, value in re.findall(r"LINDENSCOOP_(\w+) = (\d+)", header)}
         self.same(number(figures["a record in C"][0]), 4 * constants["RECORD_NUMBERS"], "a record in C")
         self.same(number(figures["a listener in C"][0]), constants["LISTENER_BYTES"], "a listener in C")
-        lengths = [number(row[3]) for row in rows(section(self.text, "The forms")) if row[0] in "1234567"]
-        self.same(number(figures["longest string, form 1 to 7"][0]), max(lengths), "the longest string")
+        lengths = [number(row[3]) for row in rows(section(self.text, "The forms")) if row[0].isdigit() and int(row[0]) in SERIAL]
+        self.same(len(lengths), len(SERIAL), "how many serial forms there are")
+        self.same(number(figures["longest string that a listener takes"][0]), max(lengths), "the longest string")
         self.same(number(figures["longest output of a writer"][0]), constants["LONGEST_STRING"], "the longest output")
 
     def test_vectors(self):
@@ -198,6 +214,7 @@ def faults(text):
         if re.match(r"\| \d", row):
             yield put(row, row.replace(row.split(" | ")[3], "33"), f"the length in {row}")
             yield put(row, row.replace("`", "`x", 1), f"the name in {row}")
+            yield put(row, row[: row.rindex(" | ")] + " | full date, day of year |", f"what is carried in {row}")
     for row in section(text, "Sizes").splitlines():
         if re.match(r"\| .*\d", row):
             yield put(row, re.sub(r"(?<=\d)(?= \|$)", "0", row), f"the figure in {row}")

@@ -7,16 +7,17 @@ cargo test --quiet --offline -p lindenscoop
 printed=$(mktemp)
 empty=$(mktemp -d)
 trap 'rm -rf "$printed" "$empty"' EXIT
-form=0
-for name in standard capture erlangen spa racal sysplex computime; do
-    form=$((form + 1))
+logs=0
+for pair in 1:standard 2:capture 3:erlangen 4:spa 5:racal 6:sysplex 7:computime 10:sat; do
+    logs=$((logs + 1))
+    form=${pair%:*} name=${pair#*:}
     log=tests/csv/form-$form
     cargo run --release --quiet --offline -p lindenscoop --example heard_csv -- "$form" "$log.log" >"$printed"
     cmp "$printed" "$log.csv"
     cargo run --release --quiet --offline -p lindenscoop --example heard_csv -- "$name" "$log.log" >"$printed"
     cmp "$printed" "$log.csv"
 done
-echo "rust: heard_csv agrees on $form logs"
+echo "rust: heard_csv agrees on $logs logs"
 
 # Runs a command that must fail and say this.
 fails_with() {
@@ -31,6 +32,7 @@ fails_with() {
 example="cargo run --release --quiet --offline -p lindenscoop --example heard_csv --"
 fails_with 'refused with 1' $example frame samples/standard.log
 fails_with 'there is no form "radio"; the forms are standard (1), ' $example radio samples/standard.log
+fails_with 'block (9), sat (10)' $example 11 samples/standard.log
 fails_with "Make it with:  cd $(pwd -P) && rt staticlib lindenscoop" \
     env LINDENSCOOP_LIB_DIR="$empty" CARGO_TARGET_DIR="$empty" cargo build --quiet --offline -p lindenscoop
 echo "rust: errors say what to do"

@@ -4,6 +4,7 @@ use std::ffi::OsString;
 use std::path::PathBuf;
 
 use crate::failure::Failure;
+use crate::forms;
 
 /// An option and whether it takes a value.
 pub type Known = (&'static str, bool);
@@ -92,8 +93,9 @@ impl Arguments {
     /// The form of `--form`.
     pub fn form_option(&self) -> Result<lindenscoop::Form, Failure> {
         let word = self.value("--form");
-        crate::forms::serial(word.ok_or_else(|| {
-            Failure::usage("say which form the clock sends: --form standard, capture, erlangen, spa, racal, sysplex or computime")
+        forms::serial(word.ok_or_else(|| {
+            let names = forms::named(forms::serial_forms());
+            Failure::usage(format!("say which form the clock sends: --form {names}"))
         })?)
     }
 }

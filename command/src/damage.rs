@@ -37,13 +37,16 @@ mod tests {
 
     #[test]
     fn no_string_is_left() {
-        // of 31 bytes, so that every way comes to every place
-        let string = b"CH0 01.01.24 12:00:00.0000000\r\n";
-        for number in 1..200 {
-            let bytes = damaged(string, number, |bytes| {
-                search(Form::CAPTURE, bytes, 0).is_ok()
-            });
-            assert!(search(Form::CAPTURE, &bytes, 0).is_err(), "{bytes:?}");
+        // of 31 and of 29 bytes, so that every way comes to every place
+        let strings: [(Form, &[u8]); 2] = [
+            (Form::CAPTURE, b"CH0 01.01.24 12:00:00.0000000\r\n"),
+            (Form::SAT, b"\x0201.01.24/1/12:00:00UTC   \r\n\x03"),
+        ];
+        for (form, string) in strings {
+            for number in 1..200 {
+                let bytes = damaged(string, number, |bytes| search(form, bytes, 0).is_ok());
+                assert!(search(form, &bytes, 0).is_err(), "{bytes:?}");
+            }
         }
     }
 }

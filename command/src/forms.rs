@@ -1,70 +1,84 @@
-//! The forms by name and number.
+//! The forms by name and number, as the crate over the library has them.
 
-use lindenscoop::Form;
+use lindenscoop::{Form, ParseFormError};
 
 use crate::failure::Failure;
 
-/// Names and lengths of the forms 1 to 9, in this order. The block's length is its greatest.
-const FORMS: [(&str, usize); 9] = [
-    ("standard", 32),
-    ("capture", 31),
-    ("erlangen", 66),
-    ("spa", 32),
-    ("racal", 16),
-    ("sysplex", 16),
-    ("computime", 24),
-    ("frame", 100),
-    ("block", 174),
-];
-
-/// The forms that search and listener take.
-pub const SERIAL: std::ops::RangeInclusive<u32> = 1..=7;
-
-fn row(form: Form) -> (&'static str, usize) {
-    FORMS[form.0 as usize - 1]
+/// The forms that search and listener take, in the order of the numbers.
+pub fn serial_forms() -> impl Iterator<Item = Form> {
+    Form::ALL.iter().copied().filter(|form| form.is_serial())
 }
 
 pub fn name(form: Form) -> &'static str {
-    row(form).0
+    form.name().expect("only forms that have a name come here")
 }
 
+/// Of the block it is the greatest.
 pub fn length(form: Form) -> usize {
-    row(form).1
+    form.length()
+        .expect("only forms that have a name come here")
 }
 
-fn listed(count: usize) -> String {
-    let names = FORMS.iter().take(count).enumerate();
-    names
-        .map(|(at, (name, _))| format!("{name} ({})", at + 1))
-        .collect::<Vec<_>>()
-        .join(", ")
+/// `standard, capture or racal`
+pub fn named(forms: impl Iterator<Item = Form>) -> String {
+    let names: Vec<&str> = forms.map(name).collect();
+    match names.split_last() {
+        Some((last, rest)) if !rest.is_empty() => format!("{} or {last}", rest.join(", ")),
+        _ => names.concat(),
+    }
 }
 
-/// A form by its name or number, one of all nine.
+/// `standard (1), capture (2)`
+fn listed(forms: impl Iterator<Item = Form>) -> String {
+    let each = forms.map(|form| format!("{form} ({})", form.0));
+    each.collect::<Vec<_>>().join(", ")
+}
+
+/// A form by its name or number, one of all.
 pub fn any(word: &str) -> Result<Form, Failure> {
-    let lower = word.to_ascii_lowercase();
-    let found = FORMS
-        .iter()
-        .position(|(name, _)| *name == lower)
-        .map(|at| at as u32 + 1)
-        .or_else(|| lower.parse().ok().filter(|number| (1..=9).contains(number)));
-    found.map(Form).ok_or_else(|| {
-        Failure::usage(format!(
-            "there is no form \"{word}\"; it is one of {}",
-            listed(9)
-        ))
-    })
+    word.parse()
+        .map_err(|error: ParseFormError| Failure::usage(error.to_string()))
 }
 
 /// A form that can be listened for.
 pub fn serial(word: &str) -> Result<Form, Failure> {
     let form = any(word)?;
-    if SERIAL.contains(&form.0) {
+    if form.is_serial() {
         return Ok(form);
     }
     Err(Failure::usage(format!(
-        "form {} is not listened or searched for; choose one of {}",
-        name(form),
-        listed(7)
+        "form {form} is not listened or searched for; choose one of {}",
+        listed(serial_forms())
     )))
+}
+
+#[cfg(test)]
+mod tests {
+    use super::*;
+
+    #[test]
+    fn lists() {
+        let forms = [Form::SPA, Form::RACAL, Form::SAT];
+        assert_eq!(named(forms.into_iter()), "spa, racal or sat");
+        assert_eq!(named(forms.into_iter().take(1)), "spa");
+        assert_eq!(listed(forms.into_iter()), "spa (4), racal (5), sat (10)");
+        let numbers: Vec<u32> = serial_forms().map(u32::from).collect();
+        assert_eq!(numbers, [1, 2, 3, 4, 5, 6, 7, 10]);
+    }
+
+    #[test]
+    fn words() {
+        for word in ["sat", "SAT", "10"] {
+            assert_eq!(any(word).unwrap(), Form::SAT);
+            assert_eq!(serial(word).unwrap(), Form::SAT);
+        }
+        for word in ["8", "9", "frame", "block"] {
+            assert!(any(word).is_ok());
+            assert!(serial(word).unwrap_err().words().ends_with("sat (10)"));
+        }
+        for word in ["", "0", "11", "010", "sat ", "satt"] {
+            let failure = any(word).unwrap_err();
+            assert!(failure.words().ends_with("block (9), sat (10)"), "{word}");
+        }
+    }
 }

@@ -13,7 +13,7 @@ A field that was not sent is absent, never 0; a damaged string is refused.
 Each has its own --help. lindenscoop --version prints the version.
 
 Forms, by name or number: standard (1), capture (2), erlangen (3), spa (4), racal (5),
-sysplex (6), computime (7); write and simulate also take frame (8) and block (9).
+sysplex (6), computime (7), sat (10); write and simulate also take frame (8) and block (9).
 
 Exit status: 0 heard (or written), 1 nothing heard, 2 a wrong call, 3 a read or write failed.
 ";
@@ -27,7 +27,8 @@ Ctrl-C ends it; the counts of bytes and telegrams come on standard error.
 A serial port is set raw, with this speed and framing, and put back at the end:
   --baud N        bits a second, 19200 if not given
   --framing DPS   data bits 7 or 8, parity N, E or O, stop bits 1 or 2; 8N1 if not given
-  --form FORM     standard, capture, erlangen, spa, racal, sysplex, computime, or 1 to 7
+  --form FORM     standard, capture, erlangen, spa, racal, sysplex, computime, sat,
+                  or 1 to 7 and 10
   --record FILE   keeps the bytes as they came in a new file, for `lindenscoop why`
 
 A file or pipe is read to its end; - is standard input.
@@ -46,7 +47,8 @@ A field that was not sent is null in JSON and an empty cell in CSV, never 0.
 
   --json          an object to a line: {\"place\":0,\"date\":\"2024-01-01\",..}
   --csv           a line of names, then a row for each record
-  --form FORM     standard, capture, erlangen, spa, racal, sysplex, computime, or 1 to 7
+  --form FORM     standard, capture, erlangen, spa, racal, sysplex, computime, sat,
+                  or 1 to 7 and 10
   --baud, --framing   where a file is a serial port, as for listen
 
 Dates are year-month-day, time is as the clock sent it, offset is hours:minutes of local
@@ -60,11 +62,12 @@ Exit status: 0 heard, 1 nothing heard, 2 a wrong call, 3 a read or write failed.
 pub const WHY: &str = "\
 lindenscoop why FILE|-
 
-Explains why nothing is heard in a file. It tries each form from standard to computime and
-says how many strings were heard, which were nearly right, with what number they were
+Explains why nothing is heard in a file. It tries each form that can be listened for
+and says how many strings were heard, which were nearly right, with what number they were
 refused, what it means, and at which byte they fail. Then it gives hints on what happened
 to the recording: a port that was not raw, parity bits, a hex dump, converted ends of line,
-an empty file. A hint says how many strings are heard once the damage is undone.
+zones in German words, an empty file. A hint says how many strings are heard once the
+damage is undone.
 
 The first 16 MiB of a longer file are looked at. Bytes are counted from 0.
 
@@ -78,7 +81,8 @@ lindenscoop write FORM [FILE..|-]
 Makes the strings of JSON lines as `lindenscoop export --json` prints them, and writes them
 one behind the other to standard output. Without a file it reads standard input.
 
-  FORM   standard, capture, erlangen, spa, racal, sysplex, computime, frame, block, or 1 to 9
+  FORM   standard, capture, erlangen, spa, racal, sysplex, computime, frame, block, sat,
+         or 1 to 10
 
 A key that is null or not there is an absent field; time must be there. place and file are
 passed over. A line that is no record, or that the form cannot carry, is refused with its
@@ -105,7 +109,7 @@ second, to test a recorder without a clock. They go to standard output, or:
   --count N       ends after N strings, damaged ones included
   --interval S    seconds between strings, 1 if not given; 0 sends without a pause
   FORM            standard, capture, erlangen, spa, racal, sysplex, computime, frame, block,
-                  or 1 to 9
+                  sat, or 1 to 10
 
 Ctrl-C ends it; the counts come on standard error. lost= counts strings for which a
 pseudo-terminal that nobody reads had no room.
@@ -115,3 +119,33 @@ pseudo-terminal that nobody reads had no room.
 
 Exit status: 0 sent, 1 nothing sent, 2 a wrong call, 3 a write failed.
 ";
+
+#[cfg(test)]
+mod tests {
+    use super::*;
+    use crate::forms;
+    use lindenscoop::Form;
+
+    /// The names behind the word that stands for them, up to the numbers.
+    fn listed(text: &'static str, head: &str) -> Vec<&'static str> {
+        let behind = text.split(head).nth(1).expect("the list is there");
+        let names = behind.split("or 1 to").next().unwrap_or(behind);
+        names
+            .split([',', ' ', '\n'])
+            .filter(|name| !name.is_empty())
+            .collect()
+    }
+
+    #[test]
+    fn every_form_is_named() {
+        let every: Vec<&str> = Form::ALL.iter().copied().map(forms::name).collect();
+        let serial: Vec<&str> = forms::serial_forms().map(forms::name).collect();
+        for form in Form::ALL {
+            assert!(ALL.contains(&format!("{form} ({})", form.0)), "{form}");
+        }
+        assert_eq!(listed(LISTEN, "--form FORM  "), serial);
+        assert_eq!(listed(EXPORT, "--form FORM  "), serial);
+        assert_eq!(listed(WRITE, "  FORM  "), every);
+        assert_eq!(listed(SIMULATE, "  FORM  "), every);
+    }
+}

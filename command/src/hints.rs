@@ -4,8 +4,8 @@ use lindenscoop::{read, telegrams, Form};
 
 use crate::{forms, repairs};
 
-/// Hints on bytes in which so many strings of the forms 1 to 7 were heard.
-pub fn hints(bytes: &[u8], heard: &[usize]) -> Vec<String> {
+/// Hints on bytes in which so many strings of each form were heard.
+pub fn hints(bytes: &[u8], heard: &[(Form, usize)]) -> Vec<String> {
     if bytes.is_empty() {
         return vec!["the file is empty: no byte was recorded; check cable and clock, and that the recorder had the port open".to_string()];
     }
@@ -25,22 +25,17 @@ pub fn hints(bytes: &[u8], heard: &[usize]) -> Vec<String> {
             repair.cause, repair.advice
         ));
     }
-    if hints.is_empty() && heard.iter().all(|count| *count == 0) {
+    if hints.is_empty() && heard.iter().all(|(_, count)| *count == 0) {
         hints.push(from_bytes(bytes));
     }
     hints
 }
 
 /// The form of which most strings are heard that were not heard before.
-fn gained(bytes: &[u8], heard: &[usize]) -> Option<(Form, usize)> {
-    let counts = forms::SERIAL.map(|number| {
-        let form = Form(number);
-        let count = telegrams(form, bytes).map_or(0, Iterator::count);
-        (
-            form,
-            count,
-            count.saturating_sub(heard[number as usize - 1]),
-        )
+fn gained(bytes: &[u8], heard: &[(Form, usize)]) -> Option<(Form, usize)> {
+    let counts = heard.iter().map(|(form, before)| {
+        let count = telegrams(*form, bytes).map_or(0, Iterator::count);
+        (*form, count, count.saturating_sub(*before))
     });
     let best = counts
         .max_by_key(|(_, _, gain)| *gain)

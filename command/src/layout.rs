@@ -6,52 +6,68 @@ use crate::forms;
 
 /// A valid string, and below each of its bytes a letter that names its field; a dot is a byte that never changes.
 struct Layout {
+    form: Form,
     sample: &'static [u8],
     fields: &'static [u8],
     /// so many bytes at the head tell the form
     head: usize,
 }
 
-const LAYOUTS: [Layout; 7] = [
+const LAYOUTS: [Layout; 8] = [
     Layout {
+        form: Form::STANDARD,
         sample: b"\x02D:01.01.24;T:1;U:12.00.00;  U \x03",
         fields: b"...dd.mm.yy...w...HH.MM.SS.uvxa.",
         head: 3,
     },
     Layout {
+        form: Form::CAPTURE,
         sample: b"CH0 01.01.24 12:00:00.0000000\r\n",
         fields: b"..n.dd.mm.yy.HH.MM.SS.fffffff..",
         head: 4,
     },
     Layout {
+        form: Form::ERLANGEN,
         sample: b"\x0201.01.24; 1; 13:00:00; +01:00; #*     ; 47.3500N   8.0625E  431m\x03",
         fields: b".dd.mm.yy..w..HH.MM.SS..+oo.oo..uvscl.i.ppp.qqqqN.ppp.qqqqE.hhhh..",
         head: 10,
     },
     Layout {
+        form: Form::SPA,
         sample: b">900WD:24-01-01 12.00;00.000:3A\r",
         fields: b".......yy.mm.dd.HH.MM.SS.fff.kk.",
         head: 7,
     },
     Layout {
+        form: Form::RACAL,
         sample: b"XGU000229000000\r",
         fields: b"...yymmddHHMMSS.",
         head: 3,
     },
     Layout {
+        form: Form::SYSPLEX,
         sample: b"\x01366:23:59:60?\r\n",
         fields: b".jjj.HH.MM.SSQ..",
         head: 5,
     },
     Layout {
+        form: Form::COMPUTIME,
         sample: b"T:24:01:01:01:12:00:00\r\n",
         fields: b"..yy.mm.dd.ww.HH.MM.SS..",
         head: 5,
+    },
+    Layout {
+        form: Form::SAT,
+        sample: b"\x0201.01.24/1/12:00:00UTC   \r\n\x03",
+        fields: b".dd.mm.yy.w.HH.MM.SSzzzzuc...",
+        head: 10,
     },
 ];
 
 const DIGITS: &[u8] = b"0123456789";
 const PADDED: &[u8] = b" 0123456789";
+/// Letters of a zone, the spaces behind it among them.
+const ZONE: usize = 4;
 
 /// The name of a field and the bytes that its places take.
 fn field(letter: u8) -> (&'static str, &'static [u8]) {
@@ -83,12 +99,14 @@ fn field(letter: u8) -> (&'static str, &'static [u8]) {
         b'E' => ("east or west", b"EW"),
         b'h' => ("the altitude", PADDED),
         b'k' => ("the checksum", b"0123456789ABCDEF"),
+        b'z' => ("the zone", b"UTCES "),
         _ => ("a fixed byte", b""),
     }
 }
 
 fn layout(form: Form) -> &'static Layout {
-    &LAYOUTS[form.0 as usize - 1]
+    let found = LAYOUTS.iter().find(|layout| layout.form == form);
+    found.expect("each form that is listened for has a layout")
 }
 
 impl Layout {
@@ -99,9 +117,13 @@ impl Layout {
         }
     }
 
-    /// The first place that does not fit.
+    /// The first place that does not fit; of a zone its head, since a wrong letter does not tell which word was meant.
     fn misfit(&self, window: &[u8]) -> Option<usize> {
-        (0..window.len()).find(|at| !self.takes(*at, window[*at]))
+        let at = (0..window.len()).find(|at| !self.takes(*at, window[*at]))?;
+        match self.fields[at] {
+            b'z' => self.place_of(b'z'),
+            _ => Some(at),
+        }
     }
 
     fn place_of(&self, letter: u8) -> Option<usize> {
@@ -179,8 +201,11 @@ pub fn failure(form: Form, rest: &[u8]) -> Option<(Refusal, usize)> {
     let misfit = layout.misfit(window);
     let at = match refusal {
         Refusal::WrongLength => misfit.unwrap_or(window.len()),
-        // every byte may fit and a number still be padded wrongly
-        Refusal::WrongByte => misfit.or(layout.place_of(b'p')).unwrap_or(0),
+        // every byte may fit and a number still be padded wrongly, or the zone be no word
+        Refusal::WrongByte => misfit
+            .or(layout.place_of(b'p'))
+            .or(layout.place_of(b'z'))
+            .unwrap_or(0),
         Refusal::WrongChecksum => layout.place_of(b'k').unwrap_or(0),
         Refusal::OutOfRange => layout.out_of_range(window),
         _ => disagreement(form, window),
@@ -232,6 +257,10 @@ pub fn described(form: Form, rest: &[u8], at: usize) -> String {
     let found = byte_name(rest[at]);
     match layout.fields[at] {
         b'.' => format!("{found} instead of {}", byte_name(layout.sample[at])),
+        b'z' if rest.len() >= at + ZONE => format!(
+            "\"{}\" in the zone, which is \"UTC \", \"CET \" or \"CEST\"",
+            rest[at..at + ZONE].escape_ascii()
+        ),
         letter if !layout.takes(at, rest[at]) => format!("{found} in {}", field(letter).0),
         letter => {
             let end = (at..layout.fields.len()).find(|end| layout.fields[*end] != letter);
@@ -251,13 +280,13 @@ mod tests {
 
     #[test]
     fn samples_are_valid_and_fit() {
-        for number in forms::SERIAL {
-            let form = Form(number);
+        assert_eq!(LAYOUTS.len(), forms::serial_forms().count());
+        for form in forms::serial_forms() {
             let layout = layout(form);
             assert_eq!(layout.sample.len(), forms::length(form));
             assert_eq!(layout.fields.len(), forms::length(form));
-            assert_eq!(layout.misfit(layout.sample), None, "form {number}");
-            assert!(read(form, layout.sample).is_ok(), "form {number}");
+            assert_eq!(layout.misfit(layout.sample), None, "{form}");
+            assert!(read(form, layout.sample).is_ok(), "{form}");
         }
     }
 
@@ -283,5 +312,50 @@ mod tests {
         );
         assert_eq!(at(Form::RACAL, b"XGU000229000000\n"), Some((3, 15)));
         assert_eq!(at(Form::RACAL, b"XGU0002290000"), Some((2, 13)));
+    }
+
+    #[test]
+    fn places_of_refusals_of_sat() {
+        let at = |old: &str, new: &str| {
+            let string = "\x0201.01.24/1/12:00:00UTC   \r\n\x03".replace(old, new);
+            let (refusal, at) = failure(Form::SAT, string.as_bytes())?;
+            let told = described(Form::SAT, string.as_bytes(), at);
+            Some((refusal.number(), at, told))
+        };
+        let zone = |word: &str| {
+            let told = format!("\"{word}\" in the zone, which is \"UTC \", \"CET \" or \"CEST\"");
+            Some((3, 20, told))
+        };
+        assert_eq!(at("", ""), None);
+        for word in ["MEZ ", "MESZ", "CETS", " UTC", "CEXT"] {
+            assert_eq!(at("UTC ", word), zone(word));
+        }
+        let told = |number, at, text: &str| Some((number, at, text.to_string()));
+        let status = "'*' in the letter for sync";
+        assert_eq!(at("UTC  ", "UTC *"), told(3, 24, status));
+        let change = "'A' in the letter for change";
+        assert_eq!(at("UTC   ", "UTC  A"), told(3, 25, change));
+        assert_eq!(at("\r\n", "\n\n"), told(3, 26, "LF instead of CR"));
+        let weekday = "in the weekday, which is \"2\"";
+        assert_eq!(at("/1/", "/2/"), told(5, 10, weekday));
+        let weekday = "in the weekday, which is \"8\"";
+        assert_eq!(at("/1/", "/8/"), told(4, 10, weekday));
+        let hour = "in the hour, which is \"24\"";
+        assert_eq!(at("12:00", "24:00"), told(4, 12, hour));
+        let end = "ETX instead of CR";
+        assert_eq!(at("\r\n", ""), told(2, 26, end));
+    }
+
+    /// A string that is near one form is near no other, also where both begin alike.
+    #[test]
+    fn forms_are_told_apart() {
+        for form in forms::serial_forms() {
+            let stream = layout(form).sample.repeat(3);
+            for other in forms::serial_forms().filter(|other| *other != form) {
+                let places = Places::new(other);
+                let near = (0..stream.len()).find(|at| places.is_near(&stream[*at..]));
+                assert_eq!(near, None, "a string of {form} is near {other}");
+            }
+        }
     }
 }

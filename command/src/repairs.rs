@@ -41,6 +41,16 @@ pub const ALL: &[Repair] = &[
         advice: RAW,
     },
     Repair {
+        undo: zone_words,
+        cause: "the zone is MEZ or MESZ, as in the manuals of the GLN180PEX and the GPS170SV",
+        advice: "Only UTC, CET and CEST are taken, the words of manual 004, that of the GPS180PEX. A clock whose time zone is set to UTC sends UTC by all of them.",
+    },
+    Repair {
+        undo: position_for_sync,
+        cause: "the byte behind the zone is '*', which tells of the position in the manual of the GLN180PEX",
+        advice: "Only '#' and a space are taken there, which tell of sync in manual 004, that of the GPS180PEX; and of zones only its UTC, CET and CEST.",
+    },
+    Repair {
         undo: hex_dump,
         cause: "the file is a hex dump, not the bytes themselves",
         advice: "Turn it back with `xxd -r` (or `xxd -r -p`), or record the bytes.",
@@ -123,7 +133,8 @@ fn cr_before_strings(bytes: &[u8]) -> Option<Vec<u8>> {
     Some(out)
 }
 
-/// STX put in front of what stands between lines' ends or other control bytes, and ETX behind it.
+/// STX put in front of what stands between lines' ends or other control bytes, and ETX behind it; in a SAT string, which is told by the
+/// stroke behind its date, CR LF in front of that.
 fn ends_left_out(bytes: &[u8]) -> Option<Vec<u8>> {
     if bytes.contains(&2) && bytes.contains(&3) {
         return None;
@@ -133,10 +144,29 @@ fn ends_left_out(bytes: &[u8]) -> Option<Vec<u8>> {
         if !line.is_empty() {
             out.push(2);
             out.extend_from_slice(line);
+            if line.get(8) == Some(&b'/') {
+                out.extend_from_slice(b"\r\n");
+            }
             out.push(3);
         }
     }
     Some(replaced(&out, &[(b"D:", b"\x02D:")]))
+}
+
+/// The zones of a SAT string in the words of manual 004; those of manuals 001 and 002 are German. No other form has a zone in words.
+fn zone_words(bytes: &[u8]) -> Option<Vec<u8>> {
+    changed(bytes, &[(b"MEZ ", b"CET "), (b"MESZ", b"CEST")])
+}
+
+/// What manual 001 has for fix where manual 004 has the letter for sync, with the zone in the words of either.
+fn position_for_sync(bytes: &[u8]) -> Option<Vec<u8>> {
+    let words = zone_words(bytes).unwrap_or_else(|| bytes.to_vec());
+    let pairs: [(&[u8], &[u8]); 3] = [
+        (b"UTC *", b"UTC #"),
+        (b"CET *", b"CET #"),
+        (b"CEST*", b"CEST#"),
+    ];
+    changed(&words, &pairs)
 }
 
 fn digit(byte: u8) -> Option<u8> {

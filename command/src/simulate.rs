@@ -45,7 +45,8 @@ struct Counts {
 impl Plan {
     fn new(arguments: &Arguments) -> Result<Plan, Failure> {
         let [form] = arguments.rest.as_slice() else {
-            return Err(Failure::usage("name one form: standard, capture, erlangen, spa, racal, sysplex, computime, frame or block"));
+            let names = forms::named(Form::ALL.iter().copied());
+            return Err(Failure::usage(format!("name one form: {names}")));
         };
         let interval = arguments.number("--interval", "seconds, such as 1 or 0.2", |seconds| {
             (0.0..=86_400.0).contains(seconds)
@@ -151,7 +152,7 @@ impl Plan {
 
 /// Whether a valid string stands in the bytes.
 fn is_valid(form: Form, bytes: &[u8]) -> bool {
-    match forms::SERIAL.contains(&form.0) {
+    match form.is_serial() {
         true => search(form, bytes, 0).is_ok(),
         false => read(form, bytes).is_ok(),
     }

@@ -35,9 +35,9 @@ pub fn run(words: Vec<OsString>) -> Result<bool, Failure> {
         style::BOLD,
         coloured,
     );
-    let counts = forms::SERIAL
-        .map(|number| tell_form(Form(number), &bytes, &mut report))
-        .collect::<Vec<_>>();
+    let counts: Vec<(Form, usize)> = forms::serial_forms()
+        .map(|form| (form, tell_form(form, &bytes, &mut report)))
+        .collect();
     for hint in hints::hints(&bytes, &counts) {
         report += &format!(
             "{} {hint}\n",
@@ -46,7 +46,7 @@ pub fn run(words: Vec<OsString>) -> Result<bool, Failure> {
     }
     output.pending.extend_from_slice(report.as_bytes());
     output.flush()?;
-    Ok(counts.iter().any(|count| *count > 0))
+    Ok(counts.iter().any(|(_, count)| *count > 0))
 }
 
 /// The bytes of a file up to the limit, its name, and whether there are more.
@@ -84,7 +84,7 @@ fn tell_form(form: Form, bytes: &[u8], report: &mut String) -> usize {
         total => format!(", {total} near misses"),
     };
     *report += &format!(
-        "  {number} {name:<10} strings heard: {}{near}\n",
+        "  {number:>2} {name:<10} strings heard: {}{near}\n",
         places.len()
     );
     let mut told: Vec<_> = misses.into_iter().collect();

@@ -25,7 +25,8 @@ struct Writer {
 pub fn run(words: Vec<OsString>) -> Result<bool, Failure> {
     let arguments = Arguments::new(words, &[])?;
     let Some((form, paths)) = arguments.rest.split_first() else {
-        return Err(Failure::usage("say which form to write: standard, capture, erlangen, spa, racal, sysplex, computime, frame or block"));
+        let names = forms::named(Form::ALL.iter().copied());
+        return Err(Failure::usage(format!("say which form to write: {names}")));
     };
     let mut writer = Writer {
         form: forms::any(&form.to_string_lossy())?,

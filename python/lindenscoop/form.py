@@ -7,7 +7,7 @@ from .refusal import Refusal, Refused
 
 
 class Form(enum.IntEnum):
-    """The forms. Search and listener take those that are serial, 1 to 7."""
+    """The forms. Search and listener take those that are serial, 1 to 7 and 10."""
 
     STANDARD = 1
     CAPTURE = 2
@@ -18,6 +18,7 @@ class Form(enum.IntEnum):
     COMPUTIME = 7
     FRAME = 8
     BLOCK = 9
+    SAT = 10
 
 
 AnyForm = Union[Form, int, str]

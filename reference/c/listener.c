@@ -44,7 +44,7 @@ static uint32_t completed(plain_listener *l, uint32_t form, uint32_t distance, l
 static inline uint32_t feed(plain_listener *l, uint8_t byte, lindenscoop_record *record)
 {
     const uint32_t form = l->form ^ VERSION;
-    if (form > PLAIN_FORMS)
+    if (form > PLAIN_LAST_FORM)
         return LINDENSCOOP_BAD_STATE;
     const plain_shape shape = plain_shapes[form];
     const uint32_t kept = l->kept, distance = l->distance;

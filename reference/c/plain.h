@@ -1,8 +1,8 @@
 /*
- * The checks of document 01 in plain C, written from that paper: the baseline for the speed of the library.
+ * The checks of document 01 and of document 02, W-201, in plain C, written from these papers: the baseline for the speed of the library.
  *
  * It takes the record and gives the answers of lindenscoop.h, so that both can be compared number by number and neither has to
- * convert; of the library it calls nothing. Forms 1 to 7 are read, searched and listened for, forms 1 to 7 and 9 are written. The
+ * convert; of the library it calls nothing. Forms 1 to 7 and 10 are read, searched and listened for, these and 9 are written. The
  * functions answer as those of the same name in lindenscoop.h; bench/compare.c runs the two side by side.
  */
 #ifndef PLAIN_H
@@ -12,23 +12,23 @@
 
 #include "lindenscoop.h"
 
-enum { PLAIN_FORMS = 7, PLAIN_LONGEST = 66 };
+enum { PLAIN_LAST_FORM = 10, PLAIN_LONGEST = 66 };
 
 /* Bytes of the strings that have no letter. */
 enum { SOH = 1, STX = 2, ETX = 3 };
 
-/* What a string of a form can be told by before it is read. Row 0 stands for no form, and has length 0. */
+/* What a string of a form can be told by before it is read. Rows 0, 8 and 9 stand for no serial form, and have length 0. */
 typedef struct plain_shape {
     uint32_t length;
     uint8_t first;
     uint8_t last;
 } plain_shape;
 
-extern const plain_shape plain_shapes[PLAIN_FORMS + 1];
+extern const plain_shape plain_shapes[PLAIN_LAST_FORM + 1];
 
 static inline bool plain_is_serial(uint32_t form)
 {
-    return 1 <= form && form <= PLAIN_FORMS;
+    return form <= PLAIN_LAST_FORM && plain_shapes[form].length > 0;
 }
 
 /* The sum of an SPA string: the exclusive-or of the 29 bytes before it. */

@@ -1,10 +1,17 @@
-/* The readers of forms 1 to 7. Each tests in the order of document 01: 3 (shape), 6 (sum), 4 (ranges), 5 (parts that disagree). */
+/* The readers of forms 1 to 7 and 10. Each tests in the order of document 01: 3 (shape), 6 (sum), 4 (ranges), 5 (parts that disagree). */
 #include "calendar.h"
 #include "parse.h"
 #include "plain.h"
 
-const plain_shape plain_shapes[PLAIN_FORMS + 1] = {
-    {0, 0, 0}, {32, STX, ETX}, {31, 'C', '\n'}, {66, STX, ETX}, {32, '>', '\r'}, {16, 'X', '\r'}, {16, SOH, '\n'}, {24, 'T', '\n'},
+const plain_shape plain_shapes[PLAIN_LAST_FORM + 1] = {
+    [LINDENSCOOP_STANDARD] = {32, STX, ETX},
+    [LINDENSCOOP_CAPTURE] = {31, 'C', '\n'},
+    [LINDENSCOOP_ERLANGEN] = {66, STX, ETX},
+    [LINDENSCOOP_SPA] = {32, '>', '\r'},
+    [LINDENSCOOP_RACAL] = {16, 'X', '\r'},
+    [LINDENSCOOP_SYSPLEX] = {16, SOH, '\n'},
+    [LINDENSCOOP_COMPUTIME] = {24, 'T', '\n'},
+    [LINDENSCOOP_SAT] = {29, STX, ETX},
 };
 
 static inline uint32_t yes_if(bool test)
@@ -239,6 +246,36 @@ static uint32_t read_computime(const uint8_t *s, lindenscoop_record *r)
     return LINDENSCOOP_OK;
 }
 
+/* The words of document 004, filled up to four letters; the German words of the other manuals are none. */
+static inline bool is_zone(const uint8_t *s)
+{
+    return IS_TEXT(s, "UTC ") || IS_TEXT(s, "CET ") || IS_TEXT(s, "CEST");
+}
+
+/* <STX>dd.mm.yy/w/hh:mm:ssxxxxuv<CR><LF><ETX> */
+static uint32_t read_sat(const uint8_t *s, lindenscoop_record *r)
+{
+    if (!(s[0] == STX && are_three(s + 1, '.') && s[9] == '/' && is_digit(s[10]) && s[11] == '/' && are_three(s + 12, ':')
+          && is_zone(s + 20) && is_either(s[24], '#', ' ') && is_either(s[25], '!', ' ') && IS_TEXT(s + 26, "\r\n\3")))
+        return LINDENSCOOP_WRONG_BYTE;
+
+    const date d = date_at(s, 7, 4, 1);
+    const daytime t = time_at(s, 12, 15, 18);
+    const uint32_t weekday = number(s + 10, 1);
+    if (!(is_time(t) && is_date(d) && is_weekday(weekday)))
+        return LINDENSCOOP_OUT_OF_RANGE;
+    if (!is_weekday_of(weekday, d))
+        return LINDENSCOOP_DISAGREEMENT;
+
+    /* The words differ from each other in their third letter. */
+    *r = record_of(d, t);
+    r->sync = yes_if(s[24] == ' ');
+    r->utc = yes_if(s[22] == 'C');
+    r->summer = yes_if(s[22] == 'S');
+    r->change = yes_if(s[25] == '!');
+    return LINDENSCOOP_OK;
+}
+
 uint32_t plain_read_string(uint32_t form, const uint8_t *s, lindenscoop_record *record)
 {
     switch (form) {
@@ -249,6 +286,7 @@ uint32_t plain_read_string(uint32_t form, const uint8_t *s, lindenscoop_record *
     case LINDENSCOOP_RACAL: return read_racal(s, record);
     case LINDENSCOOP_SYSPLEX: return read_sysplex(s, record);
     case LINDENSCOOP_COMPUTIME: return read_computime(s, record);
+    case LINDENSCOOP_SAT: return read_sat(s, record);
     default: return LINDENSCOOP_UNKNOWN_FORM;
     }
 }

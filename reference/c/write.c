@@ -1,4 +1,4 @@
-/* The writers of forms 1 to 7, and the tests in the order of document 01: 1, 7 (bad record), 8 (field missing), 9, 10 (no room). */
+/* The writers of forms 1 to 7 and 10, and the tests in the order of document 01: 1, 7 (bad record), 8 (field missing), 9, 10 (no room). */
 #include "calendar.h"
 #include "plain.h"
 #include "spell.h"
@@ -58,6 +58,7 @@ static inline bool has_carried_fields(uint32_t form, const lindenscoop_record *r
     case LINDENSCOOP_ERLANGEN: return full_date && r->offset && r->sync && r->fix && r->summer && r->change && r->leap && r->position;
     case LINDENSCOOP_SPA: return full_date && r->fraction == LINDENSCOOP_THOUSANDTHS;
     case LINDENSCOOP_SYSPLEX: return r->date != LINDENSCOOP_ABSENT && r->sync;
+    case LINDENSCOOP_SAT: return full_date && r->sync && r->utc && r->summer && r->change;
     default: return full_date;
     }
 }
@@ -165,6 +166,21 @@ static void write_computime(const lindenscoop_record *r, uint8_t *o)
     PUT_TEXT(o, "\r\n");
 }
 
+static inline const char *zone_word(const lindenscoop_record *r)
+{
+    return r->utc == LINDENSCOOP_YES ? "UTC " : r->summer == LINDENSCOOP_YES ? "CEST" : "CET ";
+}
+
+static void write_sat(const lindenscoop_record *r, uint8_t *o)
+{
+    o = put_three(put_byte(o, STX), r->day, r->month, r->year, '.');
+    o = put_byte(put_byte(put_byte(o, '/'), weekday_digit(r)), '/');
+    o = put_bytes(put_three(o, r->hour, r->minute, r->second, ':'), zone_word(r), 4);
+    o[0] = letter_if(r->sync, ' ', '#');
+    o[1] = letter_if(r->change, '!', ' ');
+    PUT_TEXT(o + 2, "\r\n\3");
+}
+
 static void write_string(uint32_t form, const lindenscoop_record *r, uint8_t *out)
 {
     switch (form) {
@@ -174,6 +190,7 @@ static void write_string(uint32_t form, const lindenscoop_record *r, uint8_t *ou
     case LINDENSCOOP_SPA: write_spa(r, out); break;
     case LINDENSCOOP_RACAL: write_racal(r, out); break;
     case LINDENSCOOP_SYSPLEX: write_sysplex(r, out); break;
+    case LINDENSCOOP_SAT: write_sat(r, out); break;
     default: write_computime(r, out); break;
     }
 }

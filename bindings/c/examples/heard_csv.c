@@ -2,7 +2,7 @@
  * Prints the time strings that are heard in a serial log as CSV: a header line, then a line for each record, with
  * empty cells for fields that were not sent.
  *
- *     heard_csv FORM [FILE]      FORM is 1..7; standard input where no file is named
+ *     heard_csv FORM [FILE]      FORM is 1..7 or 10; standard input where no file is named
  *
  *     cc -O2 -std=c99 -Ibindings/c/include bindings/c/examples/heard_csv.c target/staticlib/liblindenscoop.a -o heard_csv
  */
@@ -88,10 +88,14 @@ static void hear(lindenscoop_listener *listener, const unsigned char *bytes, siz
     }
 }
 
-/* The form that a word names by its digit, 0 for any other word. */
+/* The form that a word names by its digits, two at most and no zero in front; 0, which is no form, for any other word. */
 static uint32_t form_of(const char *word)
 {
-    return '0' <= word[0] && word[0] <= '9' && word[1] == '\0' ? (uint32_t)(word[0] - '0') : 0;
+    uint32_t form = 0;
+    size_t digits = 0;
+    for (; digits < 2 && '0' <= word[digits] && word[digits] <= '9'; digits++)
+        form = 10 * form + (uint32_t)(word[digits] - '0');
+    return word[0] != '0' && word[digits] == '\0' ? form : 0;
 }
 
 int main(int argc, char **argv)

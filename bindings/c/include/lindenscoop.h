@@ -47,7 +47,7 @@
 extern "C" {
 #endif
 
-/* The forms. Search and listener take the first seven. */
+/* The forms. Reading and writing take all of them; search, listener and marks take the serial ones, 1..7 and 10. */
 enum {
     LINDENSCOOP_STANDARD = 1,
     LINDENSCOOP_CAPTURE = 2,
@@ -57,7 +57,8 @@ enum {
     LINDENSCOOP_SYSPLEX = 6,
     LINDENSCOOP_COMPUTIME = 7,
     LINDENSCOOP_FRAME = 8,
-    LINDENSCOOP_BLOCK = 9
+    LINDENSCOOP_BLOCK = 9,
+    LINDENSCOOP_SAT = 10
 };
 
 /* The answers: none, the refusals (lindenscoop_message says what each means), and a record that a listener hands out. */
@@ -183,11 +184,11 @@ LINDENSCOOP_NOT_NULL uint32_t lindenscoop_read_raw(uint32_t form, const uint8_t 
 LINDENSCOOP_NOT_NULL uint32_t lindenscoop_write_raw(uint32_t form, const uint32_t *numbers, size_t numbers_length, uint8_t *out, size_t out_length, size_t *written);
 
 /* The first valid string at or after start, which may be past the end: its place in *place, its record in the first 29
-   numbers. Place 0 and the empty record where it is refused with 1 or 12, tested in this order.
+   numbers. Place 0 and the empty record where it is refused with 1 (the form is not serial) or 12, tested in this order.
    10, before all else: numbers_length is below 29; *place is 0, and no number is stored. */
 LINDENSCOOP_NOT_NULL uint32_t lindenscoop_search_raw(uint32_t form, const uint8_t *bytes, size_t bytes_length, size_t start, size_t *place, uint32_t *numbers, size_t numbers_length);
 
-/* A new listener, in the first 70 bytes. 1: the form is not 1..7; the state stored then answers every byte with 11.
+/* A new listener, in the first 70 bytes. 1: the form is not serial; the state stored then answers every byte with 11.
    10, before all else: state_length is below 70; nothing is stored. */
 LINDENSCOOP_NOT_NULL uint32_t lindenscoop_start_raw(uint32_t form, uint8_t *state, size_t state_length);
 
@@ -204,7 +205,7 @@ LINDENSCOOP_NOT_NULL uint32_t lindenscoop_feed_raw(uint8_t *state, size_t state_
 LINDENSCOOP_NOT_NULL uint32_t lindenscoop_feed_all_raw(uint8_t *state, size_t state_length, const uint8_t *bytes, size_t bytes_length, size_t *used, uint32_t *numbers, size_t numbers_length);
 
 /* Runs a new listener over bytes: marks[i] is 1 where byte i completes a valid string, else 0, for each of them.
-   1: the form is not 1..7. 10: marks_length is below bytes_length. Tested in this order; neither changes a mark. */
+   1: the form is not serial. 10: marks_length is below bytes_length. Tested in this order; neither changes a mark. */
 LINDENSCOOP_NOT_NULL uint32_t lindenscoop_mark_raw(uint32_t form, const uint8_t *bytes, size_t bytes_length, uint8_t *marks, size_t marks_length);
 #undef LINDENSCOOP_NOT_NULL
 

@@ -231,6 +231,76 @@ static void check_versions(void)
     CHECK(lindenscoop_feed(&listener, '\r', &r) == LINDENSCOOP_HEARD && r.day == 29);
 }
 
+/* SAT strings, and the flags that each carries. */
+static const struct {
+    const char *string, *flags;
+} sat[] = {{"\x02" "01.01.24/1/12:00:00UTC   \r\n\x03", "y-ynn---"},
+           {"\x02" "31.03.24/7/01:59:60CET #!\r\n\x03", "n-nny---"},
+           {"\x02" "31.03.24/7/03:00:00CEST  \r\n\x03", "y-nyn---"}};
+
+/* They are read, written again as the same bytes, searched for and heard; the writer asks for the carried fields and no others. */
+static void check_sat(void)
+{
+    char out[29];
+    lindenscoop_listener listener;
+    lindenscoop_record r, back;
+    size_t n = 0;
+    uint32_t year = 0, month = 0, day = 0;
+    CHECK(lindenscoop_start(LINDENSCOOP_SAT, &listener) == LINDENSCOOP_OK);
+    CHECK(listener.bytes[LINDENSCOOP_LISTENER_BYTES - 1] == (LINDENSCOOP_STATE_VERSION << 4 | LINDENSCOOP_SAT));
+    for (size_t i = 0; i < sizeof sat / sizeof *sat; i++) {
+        CHECK(lindenscoop_read(LINDENSCOOP_SAT, sat[i].string, 29, &r) == LINDENSCOOP_OK && strlen(sat[i].string) == 29);
+        check_flags(&r, sat[i].flags);
+        CHECK(lindenscoop_get_date(&r, &year, &month, &day) && year == 2024 && month == (i ? 3u : 1u) && day == (i ? 31u : 1u));
+        CHECK(r.fraction == LINDENSCOOP_ABSENT && r.channel == LINDENSCOOP_ABSENT && r.offset == LINDENSCOOP_ABSENT && r.position == LINDENSCOOP_ABSENT);
+        CHECK(lindenscoop_write(LINDENSCOOP_SAT, &r, out, 29, &n) == LINDENSCOOP_OK && n == 29 && memcmp(out, sat[i].string, 29) == 0);
+        CHECK(lindenscoop_write(LINDENSCOOP_SAT, &r, out, 28, &n) == LINDENSCOOP_SHORT_BUFFER && n == 0);
+        CHECK(lindenscoop_feed_all(&listener, sat[i].string, 29, &n, &back) == LINDENSCOOP_HEARD && n == 29 && memcmp(&back, &r, sizeof r) == 0);
+        CHECK(lindenscoop_search(LINDENSCOOP_SAT, sat[i].string, 29, 0, &n, &back) == LINDENSCOOP_OK && n == 0 && memcmp(&back, &r, sizeof r) == 0);
+        r.sync = LINDENSCOOP_ABSENT;
+        CHECK(lindenscoop_write(LINDENSCOOP_SAT, &r, out, 29, &n) == LINDENSCOOP_MISSING_FIELD && n == 0);
+    }
+}
+
+/* Each is refused with its number, and nothing is heard: words of other manuals, other ends, weekdays, a byte too few. */
+static void check_sat_refused(void)
+{
+    static const struct {
+        const char *string;
+        uint32_t answer;
+    } refused[] = {{"\x02" "01.01.24/1/12:00:00MEZ   \r\n\x03", 3}, {"\x02" "31.03.24/7/03:00:00MESZ  \r\n\x03", 3},
+                   {"\x02" "01.01.24/1/12:00:00CETS  \r\n\x03", 3}, {"\x02" "01.01.24/1/12:00:00 UTC  \r\n\x03", 3},
+                   {"\x02" "01.01.24/1/12:00:00UTC * \r\n\x03", 3}, {"\x02" "01.01.24/1/12:00:00UTC  A\r\n\x03", 3},
+                   {"\x02" "01.01.24/8/12:00:00UTC   \r\n\x03", 4}, {"\x02" "01.01.24/0/12:00:00UTC   \r\n\x03", 4},
+                   {"\x02" "01.01.24/2/12:00:00UTC   \r\n\x03", 5}, {"\x02" "01.01.24/1/12:00:00UTC  \r\n\x03", 2}};
+    lindenscoop_listener listener;
+    lindenscoop_record r;
+    size_t used = 0;
+    CHECK(lindenscoop_start(LINDENSCOOP_SAT, &listener) == LINDENSCOOP_OK);
+    for (size_t i = 0; i < sizeof refused / sizeof *refused; i++) {
+        size_t length = strlen(refused[i].string);
+        CHECK(lindenscoop_read(LINDENSCOOP_SAT, refused[i].string, length, &r) == refused[i].answer);
+        CHECK(lindenscoop_feed_all(&listener, refused[i].string, length, &used, &r) == LINDENSCOOP_OK && used == length);
+    }
+}
+
+/* Of the numbers that fit in a state the listener knows 1..7 and 10; any other one is refused, and left as it is. */
+static void check_forms_of_states(void)
+{
+    lindenscoop_listener listener, stored;
+    lindenscoop_record r;
+    uint8_t last = LINDENSCOOP_STATE_VERSION << 4;
+    for (uint32_t form = 0; form < 16; form++, last++) {
+        bool serial = (1 <= form && form <= 7) || form == 10;
+        CHECK(lindenscoop_start(form, &listener) == (serial ? LINDENSCOOP_OK : LINDENSCOOP_UNKNOWN_FORM));
+        CHECK(lindenscoop_start(LINDENSCOOP_RACAL, &listener) == LINDENSCOOP_OK);
+        listener.bytes[LINDENSCOOP_LISTENER_BYTES - 1] = last;
+        stored = listener;
+        CHECK(lindenscoop_feed(&listener, 'X', &r) == (serial ? LINDENSCOOP_OK : LINDENSCOOP_BAD_STATE));
+        CHECK((memcmp(&listener, &stored, sizeof stored) == 0) == !serial);
+    }
+}
+
 int main(void)
 {
     lindenscoop_record r = record_of(absent);
@@ -244,6 +314,9 @@ int main(void)
     check_set(other, false);
     check_stored();
     check_versions();
+    check_sat();
+    check_sat_refused();
+    check_forms_of_states();
     printf("fields: %u passed, %u failed\n", passed, failed);
     return failed ? 1 : 0;
 }

@@ -59,7 +59,7 @@ static void run_all(void)
     run(NOTHING);
     run(READ);
     run(WRITE);
-    for (form = 1; form <= 9; form++)
+    for (form = 1; form <= 10; form++)
         run(WRITE);
 }
 

@@ -61,15 +61,16 @@ forms! {
     COMPUTIME = 7, "computime", 24, "Computime";
     FRAME = 8, "frame", 100, "The IEEE1344 frame, as bytes 0, 1 and 2.";
     BLOCK = 9, "block", 174, "The block: text with a line for each field.";
+    SAT = 10, "sat", 29, "SAT";
 }
 
 impl Form {
-    /// Whether search and listener take the form.
+    /// Whether search and listener take the form: 1 to 7 and 10.
     ///
     /// ```
     /// use lindenscoop::Form;
     ///
-    /// assert!(Form::RACAL.is_serial() && !Form::BLOCK.is_serial());
+    /// assert!(Form::RACAL.is_serial() && Form::SAT.is_serial() && !Form::BLOCK.is_serial());
     /// ```
     pub fn is_serial(self) -> bool {
         Listener::new(self).is_ok()

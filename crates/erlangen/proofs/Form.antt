@@ -1,8 +1,9 @@
 -- What the tests of a Uni Erlangen string come to.
 use Rattle.spelling.specs.Spelling.{valueOf, words}
-use Rattle.cond.proofs.Kit.{[], _&&_, _||_, _∙_, _∷_, _≡_, and-true, ap, arith, Bool, drop, eqb, false, getD, length, List, ltb, ne-eqb, not, refl, sym, take, true, ℕ}
+use Rattle.cond.proofs.Kit.{[], _&&_, _||_, _∙_, _∷_, _≡_, and-true, ap, arith, Bool, drop, eqb, false, getD, length, List, ltb, ne-eqb, not, refl, take, true, ℕ}
 use Rattle.cond.specs.Pick.{oneIf}
-use Rattle.spelling.specs.Bytes.{letters, sameBytes}
+use Rattle.spelling.specs.Bytes.{isWord, letters, sameBytes}
+use Rattle.spelling.proofs.Words.{allDifferent}
 use Rattle.record.specs.declared.Record.{Record}
 use Rattle.record.specs.Record.{dateTimeInRange, inRange, restInRange, zoneAgrees}
 use Rattle.forms.specs.Carries.{carriesOf}
@@ -18,7 +19,7 @@ use Rattle.forms.specs.Slots.{offsetMinutes, second, weekday}
 use Rattle.forms.specs.Decode.{decode}
 use Rattle.forms.proofs.Tests.{no-checksum}
 use Rattle.places.specs.Weekday.{fallsOn}
-use Rattle.places.proofs.Letters.{letter-of, same-byte}
+use Rattle.places.proofs.Letters.{word-of}
 use Rattle.places.proofs.Signed.{sign-consistent}
 use Rattle.places.proofs.Validated.{Ends, ends, restConsistent, validated-on}
 
@@ -47,16 +48,16 @@ module _ (s : List ℕ) where
     -- `L` in second 60, and a space in any other
 
     pub plain-letter : (valuesBy erlangen s second ≡ 60 → ⊥) → leapConsistent true (valuesBy erlangen s) ≡ sameBytes (take 1 (drop 38 s)) (32 ∷ [])
-    unfolding leapConsistent values
+    unfolding leapConsistent values letters allDifferent isWord sameBytes
     plain-letter n =
         ap (λ (t : Bool). eqb (valueOf (words 1 (letters (32 ∷ 76 ∷ []))) (take 1 (drop 38 s))) (oneIf t)) (ne-eqb _ 60 n)
-        ∙ letter-of s 38 (omega arith) (32 ∷ 76 ∷ []) 0 refl (omega arith) ∙ sym (same-byte s 38 (omega arith) 32)
+        ∙ word-of s 38 1 (letters (32 ∷ 76 ∷ [])) 0 (omega arith) refl (omega arith)
 
     pub leap-letter : valuesBy erlangen s second ≡ 60 → leapConsistent true (valuesBy erlangen s) ≡ sameBytes (take 1 (drop 38 s)) (76 ∷ [])
-    unfolding leapConsistent values
+    unfolding leapConsistent values letters allDifferent isWord sameBytes
     leap-letter e =
         ap (λ (n : ℕ). eqb (valueOf (words 1 (letters (32 ∷ 76 ∷ []))) (take 1 (drop 38 s))) (oneIf (eqb n 60))) e
-        ∙ letter-of s 38 (omega arith) (32 ∷ 76 ∷ []) 1 refl (omega arith) ∙ sym (same-byte s 38 (omega arith) 76)
+        ∙ word-of s 38 1 (letters (32 ∷ 76 ∷ [])) 1 (omega arith) refl (omega arith)
 
     -- a minus, S or W stands on no zero
     pub signs-of : signsConsistent inMinutes (valuesBy erlangen s)

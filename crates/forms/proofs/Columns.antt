@@ -16,4 +16,5 @@ table =
       six = (refl, refl);
       seven = (refl, refl);
       eight = (refl, refl);
+      ten = (refl, refl);
     }

@@ -1,4 +1,4 @@
--- Demand 2 for all nine forms, and for numbers of none: `Keeps` of each, told by numbers and values.
+-- Demand 2 for all forms, and for numbers of none: `Keeps` of each, told by numbers and values.
 use Rattle.cond.proofs.Kit.{_<_, _∙_, _≡_, ap, arith, getD, length, List, set, take, ℕ}
 use Rattle.calendar.specs.Calendar.{dayOfYear}
 use Rattle.record.specs.Answers.{readNumber, readRecord, writeNumber, writtenLength}

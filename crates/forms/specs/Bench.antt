@@ -7,6 +7,7 @@ use Rattle.spelling.specs.Bytes.{text}
 use Rattle.record.specs.Record.{emptyRecord}
 use Rattle.record.specs.declared.Channel.the-variants as channelIs
 use Rattle.record.specs.declared.Date.the-variants as dateIs
+use Rattle.record.specs.declared.Flag.{Flag}
 use Rattle.record.specs.declared.Flag.the-variants.{Absent, No, Yes}
 use Rattle.record.specs.declared.Fraction.the-variants as fractionIs
 use Rattle.record.specs.declared.Offset.the-variants as offsetIs
@@ -67,7 +68,7 @@ further =
     ∷ writes "offset 345" 8 (withOffset 345) 100 9 []
     ∷ reads "block of 117" 9 (replicate 117 0) 2 emptyRecord
     ∷ reads "block of 175" 9 (replicate 175 0) 2 emptyRecord
-    ∷ reads "form 10" 10 [] 1 emptyRecord
+    ∷ reads "form 15" 15 [] 1 emptyRecord
     ∷ reads "no mark at 9" 8 (set frameL 9 1) 3 emptyRecord
     ∷ reads "one at 5" 8 (onesAt (5 ∷ 30 ∷ 52 ∷ 56 ∷ 75 ∷ [])) 3 emptyRecord
     ∷ reads "parity" 8 (onesAt (30 ∷ 52 ∷ 56 ∷ [])) 6 emptyRecord
@@ -78,8 +79,27 @@ further =
     ∷ reads "seconds of the day" 8 (onesAt (30 ∷ 52 ∷ 56 ∷ 75 ∷ 80 ∷ [])) 5 emptyRecord
     ∷ []
 
+-- a record with all that the writer of form 10 asks for, and this sync: it asks for neither fix nor leap
+abbrev pub recordSat : Flag → Record
+recordSat sync = standardOf (dateIs.Full 24 1 1) 12 0 0 sync Absent Yes No No Absent
+
+-- form 10: the words of document 004 and no others, the weekday, and what the writer asks for
+abbrev pub satCases : List Case
+satCases =
+    reads "CET" 10 (text "\u{2}01.01.24/1/12:00:00CET #!\r\n\u{3}") 0 (standardOf (dateIs.Full 24 1 1) 12 0 0 No Absent No No Yes Absent)
+    ∷ reads "CEST" 10 (text "\u{2}01.07.24/1/23:59:60CEST  \r\n\u{3}") 0 (standardOf (dateIs.Full 24 7 1) 23 59 60 Yes Absent No Yes No Absent)
+    ∷ reads "MEZ" 10 (text "\u{2}01.01.24/1/12:00:00MEZ   \r\n\u{3}") 3 emptyRecord
+    ∷ reads "UTC behind a space" 10 (text "\u{2}01.01.24/1/12:00:00 UTC  \r\n\u{3}") 3 emptyRecord
+    ∷ reads "weekday 8" 10 (text "\u{2}01.01.24/8/12:00:00UTC   \r\n\u{3}") 4 emptyRecord
+    ∷ reads "weekday 2" 10 (text "\u{2}01.01.24/2/12:00:00UTC   \r\n\u{3}") 5 emptyRecord
+    ∷ writes "UTC" 10 (recordSat Yes) 29 0 (text "\u{2}01.01.24/1/12:00:00UTC   \r\n\u{3}")
+    ∷ writes "without sync" 10 (recordSat Absent) 29 8 []
+    ∷ writes "buffer of 28" 10 (recordSat Yes) 28 10 []
+    ∷ []
+
 -- the tabled claim
 pub record Bench : Type 0 where
   pub cases-hold : Holds cases
   pub known-hold : Holds known
   pub further-hold : Holds further
+  pub sat-hold : Holds satCases

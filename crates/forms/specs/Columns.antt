@@ -11,7 +11,7 @@ use Rattle.forms.specs.Fields.Fraction.{fractionWord}
 use Rattle.forms.specs.Fields.Offset.{isOffset}
 use Rattle.forms.specs.Form.{Form, carries}
 use Rattle.forms.specs.Frame.{frame}
-use Rattle.forms.specs.Serial.{capture, computime, erlangen, racal, spa, standard, sysplex}
+use Rattle.forms.specs.Serial.{capture, computime, erlangen, racal, sat, spa, standard, sysplex}
 
 -- a word where the field is carried
 abbrev pub wordIf : Bool → String → List String
@@ -36,7 +36,7 @@ column k =
 abbrev pub Line : Form → ℕ → List String → Type 0
 Line d bytes words = (d .size ≡ bytes) × (column (carries d) ≡ words)
 
--- the table as document 01 has it, for the forms of one length
+-- the table as document 01 has it, for the forms of one length, and document 02 from form 10 on
 pub record Table : Type 0 where
   pub one : Line standard 32 ("full date" ∷ "sync" ∷ "fix" ∷ "utc" ∷ "summer" ∷ "change" ∷ "leap" ∷ [])
   pub two : Line capture 31 ("full date" ∷ "ten-millionths" ∷ "channel" ∷ [])
@@ -46,3 +46,4 @@ pub record Table : Type 0 where
   pub six : Line sysplex 16 ("day of year" ∷ "sync" ∷ [])
   pub seven : Line computime 24 ("full date" ∷ [])
   pub eight : Line frame 100 ("full date" ∷ "sync" ∷ "summer" ∷ "offset" ∷ "dsp" ∷ "lsp" ∷ [])
+  pub ten : Line sat 29 ("full date" ∷ "sync" ∷ "utc" ∷ "summer" ∷ "change" ∷ [])

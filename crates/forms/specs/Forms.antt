@@ -1,4 +1,4 @@
--- The nine forms by their numbers, and what a reader and a writer answer for each.
+-- The forms by their numbers, and what a reader and a writer answer for each.
 use mathlib.Core.Bool.{Bool, true, false}
 use mathlib.Core.List.{List, [], _∷_, _++_}
 use mathlib.Core.Path.{_≡_}
@@ -17,7 +17,7 @@ use Rattle.forms.specs.CarriedPart.{carriedPart}
 use Rattle.forms.specs.Form.{Form, carries, leftBy, readBy, writeBy}
 use Rattle.forms.specs.Frame.{frame}
 use Rattle.forms.specs.Required.{hasCarried}
-use Rattle.forms.specs.Serial.{capture, computime, erlangen, racal, spa, standard, sysplex}
+use Rattle.forms.specs.Serial.{capture, computime, erlangen, racal, sat, spa, standard, sysplex}
 
 -- a form of one length, an edition of the block, or no form at all
 pub data FormKind : Type 0 where
@@ -33,13 +33,13 @@ pub record Numbered : Type 0 where
 abbrev pub numbered : ℕ → FormKind → Numbered
 numbered n l = record { number = n; kind = l }
 
--- the serial forms, 1 to 7, which search and listener take: all that alwaysHasWord of them goes by this list
+-- the serial forms, which search and listener take: all that is said of serial forms goes by this list
 abbrev pub serialForms : List Numbered
 serialForms =
     numbered 1 (sized standard) ∷ numbered 2 (sized capture) ∷ numbered 3 (sized erlangen) ∷ numbered 4 (sized spa) ∷ numbered 5 (sized racal)
-    ∷ numbered 6 (sized sysplex) ∷ numbered 7 (sized computime) ∷ []
+    ∷ numbered 6 (sized sysplex) ∷ numbered 7 (sized computime) ∷ numbered 10 (sized sat) ∷ []
 
--- forms 1 to 9, which readers and writers take
+-- all forms, which readers and writers take
 abbrev pub allForms : List Numbered
 allForms = serialForms ++ (numbered 8 (sized frame) ∷ numbered 9 (block firstEdition) ∷ [])
 
@@ -54,7 +54,7 @@ isKnown (sized d) = true
 isKnown (block e) = true
 isKnown unknown = false
 
--- refusals 1 and 11: "search, new listener: not 1..7", "listener state: form not 1..7" where this is false
+-- refusals 1 and 11: "search, new listener: not 1..7", "listener state: form not 1..7" where this is false; "1 and 11 no longer bar form 10"
 unfoldable pub isSerial : ℕ → Bool
 isSerial n = isKnown (formKindOf serialForms n)
 

@@ -53,6 +53,7 @@ known =
     ∷ reads "RACAL" 5 (text "XGU450728135619\r") 0 (syncedOf knownDate 13 56 19 Absent)
     ∷ reads "SYSPLEX-1" 6 (text "\u{1}209:13:56:19 \r\n") 0 (syncedOf (dateIs.DayOfYear 209) 13 56 19 Yes)
     ∷ reads "Computime" 7 (text "T:45:07:28:05:13:56:19\r\n") 0 (syncedOf knownDate 13 56 19 Absent)
+    ∷ reads "SAT" 10 (text "\u{2}28.07.45/5/13:56:19CEST#!\r\n\u{3}") 0 (standardOf knownDate 13 56 19 No Absent No Yes Yes Absent)
     ∷ writes "IEEE1344 frame" 8 recordFramed 100 0 frameKnown
     ∷ reads "IEEE1344 frame" 8 frameKnown 0 recordFramed
     ∷ writes "block" 9 recordFull 174 0 blockFull

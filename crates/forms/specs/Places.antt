@@ -103,3 +103,11 @@ two f = part (digits 2) f
 -- one of the quoted letters; the first means 0
 abbrev pub letter : Slot → String → Place
 letter f t = part (words 1 (letters (text t))) f
+
+abbrev pub texts : List String → List (List ℕ)
+texts [] = []
+texts (t ∷ ts) = text t ∷ texts ts
+
+-- one of the quoted words of w letters; the first means 0
+abbrev pub oneOf : Slot → ℕ → List String → Place
+oneOf f w ts = part (words w (texts ts)) f

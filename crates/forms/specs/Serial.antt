@@ -1,9 +1,9 @@
--- The seven serial forms: their layouts, as document 01 writes them.
+-- The serial forms: their layouts, as document 01 writes them, and document 02 from form 10 on.
 use mathlib.Core.List.{[], _∷_}
 use Rattle.spelling.specs.Spelling.{digits, hex, padded}
 use Rattle.forms.specs.Checksum.{Checksum, exclusiveOr, checksumBy}
 use Rattle.forms.specs.Form.{Form}
-use Rattle.forms.specs.Places.{Layout, letter, lit, one, part, two}
+use Rattle.forms.specs.Places.{Layout, letter, lit, one, oneOf, part, two}
 use Rattle.forms.specs.Slots.{altitude, change, channel, day, fix, hour, latitudeDegrees, latitudePart, leap, leapSecond, longitudeDegrees}
 use Rattle.forms.specs.Slots.{longitudePart, minus, minute, month, notice, offsetHours, offsetMinutes, ordinal, second, south, checksum, summer, sync}
 use Rattle.forms.specs.Slots.{tenMillionth, thousandth, weekday, west, year, zone}
@@ -86,3 +86,15 @@ computimeLayout =
 -- full date
 abbrev pub computime : Form
 computime = record { size = 24; layout = computimeLayout; checksums = [] }
+
+-- 10. `<STX>dd.mm.yy/w/hh:mm:ssxxxxuv<CR><LF><ETX>`, "its zone filled up to four letters with spaces behind"; "the letters of document 004 decide":
+-- `UTC`, `CET` and `CEST`, of sync and fix u tells sync
+abbrev pub satLayout : Layout
+satLayout =
+    lit "\u{2}" ∷ two day ∷ lit "." ∷ two month ∷ lit "." ∷ two year ∷ lit "/" ∷ one weekday ∷ lit "/"
+    ∷ two hour ∷ lit ":" ∷ two minute ∷ lit ":" ∷ two second
+    ∷ oneOf zone 4 ("CET " ∷ "CEST" ∷ "UTC " ∷ []) ∷ letter sync "# " ∷ letter change " !" ∷ lit "\r\n\u{3}" ∷ []
+
+-- "full date, utc and summer by the zone, change by v, and by u the one of sync and fix that the manual's table names"
+abbrev pub sat : Form
+sat = record { size = 29; layout = satLayout; checksums = [] }

@@ -34,7 +34,7 @@ pub record Passed (form : ℕ) (r : Record) : Type 0 where
   pub complete : hasCarriedForm form r ≡ true
 
 pub record WriterNumbers : Type 0 where
-  -- "form is not 1..9"
+  -- "form is not 1..9", nor one that document 02 adds
   pub one : (form : ℕ) (r : Record) (room : ℕ) → isKnown (formKindOf allForms form) ≡ false → writeNumber (writeForm form r room) ≡ 1
   -- "writers 1, 7, 8, 9, 10"
   pub others :

@@ -35,7 +35,7 @@ answerOf (heard.Refused x) = refused (numberOf x)
 unfoldable pub stateOf : Listener → State
 stateOf l = record { kept = lastOf (l .kept) (oldestFirst (placeOf (l .at)) (l .bytes)); distance = l .distance }
 
--- "form not 1..7, more than n-1 bytes kept, or a distance over n"
+-- "form not 1..7, more than n-1 bytes kept, or a distance over n"; the serial forms of document 02 besides
 unfoldable pub isBad : ℕ → Listener → Bool
 isBad n l = not (isSerial (l .form)) || (ltb (n - 1) (l .kept) || ltb n (l .distance))
 

@@ -1,45 +1,14 @@
--- A place of one byte: the byte, one of a list of letters, and what the letters tell.
-use Rattle.cond.proofs.Kit.{[], _&&_, _<_, _∙_, _∷_, _≡_, _≤_, and-true, ap, arith, Bool, drop, drop-cons, drop-of-length-le, eq-eqb, eqb, eqb-false, eqb-true, false, getD, length, List, ne-eqb, not, not-true, refl, suc, sym, take, true, zero, ℕ}
-use Rattle.cond.proofs.Tests.{both, either-way}
+-- A place of one byte: the byte, one of a list of letters, and what the letters tell; and a place of words of several letters.
+use Rattle.cond.proofs.Kit.{[], _+_, _<_, _∙_, _∷_, _≡_, _≤_, and-true, ap, arith, drop, drop-cons, drop-of-length-le, eqb, false, getD, length, List, not, refl, suc, take, true, zero, ℕ}
+use Rattle.cond.proofs.Tests.{either-way}
 use Rattle.spelling.specs.Bytes.{isWord, letters, sameBytes, wordPlace}
 use Rattle.spelling.specs.Spelling.{isSpelled, valueOf, words}
 use Rattle.spelling.proofs.Spelling.{sized-is, sized-value}
+use Rattle.spelling.proofs.Words.{allDifferent, place-same}
+use Rattle.forms.proofs.Layouts.{piece-length}
 use Rattle.forms.specs.Fields.Flag.{yesNo}
 use Rattle.forms.specs.Fields.Sign.{negative}
 use Rattle.places.specs.Places.{flagOf}
-
--- the letters of a list differ
-
-abbrev isNone : ℕ → List ℕ → Bool
-isNone a [] = true
-isNone a (b ∷ bs) = not (eqb a b) && isNone a bs
-
-abbrev pub differ : List ℕ → Bool
-differ [] = true
-differ (a ∷ bs) = isNone a bs && differ bs
-
-none-at : (a : ℕ) (ls : List ℕ) (i : ℕ) → isNone a ls ≡ true → i < length ls → eqb a (getD ls i 0) ≡ false
-none-at a [] i h l = absurd (omega (arith, l))
-none-at a (b ∷ bs) zero h l = not-true (eqb a b) (both (not (eqb a b)) _ h .0)
-none-at a (b ∷ bs) (suc i) h l = none-at a bs i (both (not (eqb a b)) _ h .1) (omega arith)
-
-next : (m n : ℕ) → eqb (suc m) (suc n) ≡ eqb m n
-next m n =
-    either-way (eqb m n) (λ e. eq-eqb (suc m) (suc n) (ap suc (eqb-true m n e)) ∙ sym e)
-    (λ e. ne-eqb (suc m) (suc n) (λ q. eqb-false m n e (omega arith)) ∙ sym e)
-
-index : (x : ℕ) (ls : List ℕ) (i : ℕ) → differ ls ≡ true → i < length ls → eqb (wordPlace (letters ls) (x ∷ [])) i ≡ eqb x (getD ls i 0)
-unfolding letters wordPlace sameBytes
-index x [] i d l = absurd (omega (arith, l))
-index x (a ∷ bs) zero d l =
-    either-way (eqb x a) (λ e. simp e) (λ e. simp e (ne-eqb (suc (wordPlace (letters bs) (x ∷ []))) 0 (λ e. omega arith)))
-index x (a ∷ bs) (suc i) d l =
-    let b = both (isNone a bs) (differ bs) d in
-    either-way (eqb x a)
-    (λ e.
-    simp e
-    (ne-eqb 0 (suc i) (λ q. omega arith) ∙ sym (ap (λ (y : ℕ). eqb y (getD bs i 0)) (eqb-true x a e) ∙ none-at a bs i (b .0) (omega arith))))
-    (λ e. simp e (next (wordPlace (letters bs) (x ∷ [])) i ∙ index x bs i (b .1) (omega arith)))
 
 -- a letter by its number
 pub letters-at : (ls : List ℕ) (n : ℕ) → n < length ls → getD (letters ls) n [] ≡ getD ls n 0 ∷ []
@@ -83,10 +52,6 @@ module _ (s : List ℕ) (at : ℕ) (h : at < length s) where
   pub letter-value : (ls : List ℕ) → valueOf (words 1 (letters ls)) (take 1 (drop at s)) ≡ wordPlace (letters ls) (take 1 (drop at s))
   letter-value ls = sized-value _ (words 1 (letters ls)) letter-long
 
-  -- it is the letter of this number in the list
-  pub letter-of : (ls : List ℕ) (i : ℕ) → differ ls ≡ true → i < length ls → eqb (valueOf (words 1 (letters ls)) (take 1 (drop at s))) i ≡ eqb (getD s at 0) (getD ls i 0)
-  letter-of ls i d l = rw (letter-value ls, byte-at) (index (getD s at 0) ls i d l)
-
   -- the first letter means no
   pub flag-letter : (a b : ℕ) → yesNo (valueOf (words 1 (letters (a ∷ b ∷ []))) (take 1 (drop at s))) ≡ flagOf (eqb (getD s at 0) a)
   unfolding letters wordPlace
@@ -96,3 +61,9 @@ module _ (s : List ℕ) (at : ℕ) (h : at < length s) where
   pub sign-letter : (a b : ℕ) → negative (valueOf (words 1 (letters (a ∷ b ∷ []))) (take 1 (drop at s))) ≡ not (eqb (getD s at 0) a)
   unfolding letters wordPlace
   sign-letter a b = rw (letter-value (a ∷ b ∷ []), same-byte a) (either-way (eqb (getD s at 0) a) (λ e. simp e) (λ e. simp e))
+
+-- it is the word of this number in the list
+pub word-of : (s : List ℕ) (at w : ℕ) (ws : List (List ℕ)) (i : ℕ) → at + w ≤ length s → allDifferent ws ≡ true → i < length ws
+    → eqb (valueOf (words w ws) (take w (drop at s))) i ≡ sameBytes (take w (drop at s)) (getD ws i [])
+word-of s at w ws i h d l =
+    ap (λ (k : ℕ). eqb k i) (sized-value _ (words w ws) (piece-length at s w h)) ∙ place-same ws (take w (drop at s)) i d l

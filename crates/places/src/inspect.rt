@@ -137,3 +137,14 @@ pub fn yes_at(s: &[u8], at: usize, yes: u8) -> Flag
         Flag::No
     }
 }
+
+// The same by a word of several letters.
+pub fn word_at(s: &[u8], at: usize, yes: &[u8]) -> Flag
+    ensures { λ r. ⌜ r ≡ yesIf (sameBytes (take (length (now (yes .entry))) (drop at (now (s .entry)))) (now (yes .entry))) ⌝ }
+{
+    if text_at(s, at, yes) {
+        Flag::Yes
+    } else {
+        Flag::No
+    }
+}

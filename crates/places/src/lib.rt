@@ -18,6 +18,7 @@ pub use inspect::padded_at;
 pub use inspect::pairs_at;
 pub use inspect::part_of;
 pub use inspect::text_at;
+pub use inspect::word_at;
 pub use inspect::yes_at;
 pub use put::put_choice;
 pub use put::put_flag;

@@ -4,7 +4,7 @@ use Rattle.record.specs.declared.refusal.Refusal.{Refusal}
 use Rattle.record.specs.declared.refusal.Refusal.the-variants as refusal
 
 abbrev pub numberOf : Refusal → ℕ
--- "form is not 1..9 (search, new listener: not 1..7)"
+-- "form is not 1..9 (search, new listener: not 1..7)", nor one that document 02 adds
 numberOf refusal.UnknownForm = 1
 -- "input length is not the form's"
 numberOf refusal.WrongLength = 2
@@ -25,7 +25,7 @@ numberOf refusal.MissingField = 8
 numberOf refusal.NotExpressible = 9
 -- "writer: the buffer is shorter than the output"
 numberOf refusal.ShortBuffer = 10
--- "listener state: form not 1..7, more than n-1 bytes kept, or a distance over n"
+-- "listener state: form not 1..7, more than n-1 bytes kept, or a distance over n"; forms that document 02 adds are no longer barred
 numberOf refusal.BadState = 11
 -- "search: no valid string lies wholly at or after the given start"
 numberOf refusal.NotFound = 12

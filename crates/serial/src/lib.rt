@@ -36,6 +36,7 @@ pub fn shape_of(form: u32) -> Shape
         5 => shaped(16, b'X', b'\r'),
         6 => shaped(16, 1, b'\n'),
         7 => shaped(24, b'T', b'\n'),
+        10 => shaped(29, 2, 3),
         _ => shaped(0, 0, 0),
     }
 }
@@ -72,6 +73,9 @@ pub fn read(form: u32, s: &[u8]) -> Reading
         7 => {
             return computime::read(s);
         }
+        10 => {
+            return sat::read(s);
+        }
         _ => {}
     }
     Reading::Refused(Refusal::UnknownForm)
@@ -88,6 +92,7 @@ pub fn write(form: u32, r: Record, out: &mut [u8]) -> Writing
         5 => racal::write(r, out),
         6 => sysplex::write(r, out),
         7 => computime::write(r, out),
+        10 => sat::write(r, out),
         _ => Writing::Refused(Refusal::UnknownForm),
     }
 }

@@ -29,5 +29,5 @@ fn main() {
     ));
     print(utc_minute::minute_told(5, b"XGU000229000000\r"));
     print(utc_minute::minute_told(5, b"XGU000230000000\r"));
-    print(utc_minute::minute_told(10, b""));
+    print(utc_minute::minute_told(0, b""));
 }

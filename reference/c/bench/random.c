@@ -95,7 +95,7 @@ void random_string(uint32_t form, uint8_t *out)
 
 static uint8_t other_byte(uint8_t old)
 {
-    static const char usual[] = " 0123456789+-:.;?#*US!ALNEWmDTCHXG>\1\2\3\r\n";
+    static const char usual[] = " 0123456789+-:.;/?#*US!ALNEWmDTCHXG>\1\2\3\r\n";
     if (below(2) && '0' <= old && old <= '9')
         return (uint8_t)('0' + below(10));
     switch (below(3)) {
@@ -119,10 +119,22 @@ static void put_edge_values(uint8_t *s)
     }
 }
 
+/* The words of document 004, those of the other manuals, and words padded or spelled otherwise, put into a string of form 10. */
+static void put_zone(uint8_t *s)
+{
+    static const char words[][5] = {"UTC ", "CET ", "CEST", "MEZ ", "MESZ", "utc ", "cest",
+                                    " UTC", " CET", "CES ", "CETS", "UTCS", "    ", "GMT "};
+    memcpy(s + 20, words[below(sizeof words / sizeof *words)], 4);
+}
+
 void damage(uint32_t form, uint8_t *string)
 {
     if (form == LINDENSCOOP_ERLANGEN && below(3)) {
         put_edge_values(string);
+        return;
+    }
+    if (form == LINDENSCOOP_SAT && below(3) == 0) {
+        put_zone(string);
         return;
     }
     for (uint32_t times = 1 + below(3); times > 0; times--) {

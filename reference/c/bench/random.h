@@ -7,14 +7,14 @@
 void seed(uint64_t value);
 uint32_t below(uint32_t limit);
 
-/* A good record that the form, 1 to 7 or 9, can write: every value, letter and flag varied, and no field absent. */
+/* A good record that the form, a serial one or 9, can write: every value, letter and flag varied, and no field absent. */
 void random_record(uint32_t form, lindenscoop_record *record);
 
-/* A valid string of a form, 1 to 7; its length is the form's. */
+/* A valid string of a serial form; its length is the form's. */
 void random_string(uint32_t form, uint8_t *out);
 
-/* Changes one to three bytes of a string, mostly into bytes that might stand there, or puts in values at the edge of a range; an SPA sum
-   is often made right again. */
+/* Changes one to three bytes of a string, mostly into bytes that might stand there, or puts in values at the edge of a range or a word
+   that may be no zone; an SPA sum is often made right again. */
 void damage(uint32_t form, uint8_t *string);
 
 /* A piece of a damaged stream: a string, a damaged one, a part of one, start bytes, noise. Its length, PLAIN_LONGEST at the most. */

@@ -1,5 +1,5 @@
 /*
- * A stream as `heard` takes it, the form's line first:  streams FORM KIND BYTES [SEED]
+ * A stream with the form's line first, as `heard` takes those of forms 1 to 7:  streams FORM KIND BYTES [SEED]
  *
  * KIND is `dense` (strings back to back), `sparse` (one string in each 960 bytes of noise, as a clock at 9600 baud sends one a second),
  * `noise`, or `damaged` (strings, damaged strings, parts of strings, start bytes). A stream longer than 1 MB repeats its first piece of
@@ -61,8 +61,8 @@ int main(int argc, char **argv)
     size_t length = 0;
     while (length < PIECE)
         length += next_part(argv[2], form, piece + length);
-    const uint8_t line[2] = {(uint8_t)('0' + form), '\n'};
-    print(line, 2);
+    char line[16];
+    print((const uint8_t *)line, (size_t)snprintf(line, sizeof line, "%u\n", (unsigned)form));
     for (unsigned long long left = strtoull(argv[3], NULL, 10); left > 0;) {
         const size_t part = left < length ? (size_t)left : length;
         print(piece, part);

@@ -5,6 +5,7 @@
  * callgrind counts the instructions of each function way_*.
  */
 #define _POSIX_C_SOURCE 200809L
+#include <inttypes.h>
 #include <stdio.h>
 #include <stdlib.h>
 #include <time.h>
@@ -108,18 +109,18 @@ WAY way_block(void)
 static void load(const char *name)
 {
     FILE *file = fopen(name, "rb");
-    uint8_t line[2];
-    if (!file || fread(line, 1, 2, file) != 2 || fseek(file, 0, SEEK_END)) {
-        perror(name);
+    if (!file || fscanf(file, "%" SCNu32, &form) != 1 || fgetc(file) != '\n' || !plain_is_serial(form)) {
+        fprintf(stderr, "%s: not a stream with a form's line\n", name);
         exit(1);
     }
-    form = line[0] - (uint32_t)'0';
+    const long head = ftell(file);
+    fseek(file, 0, SEEK_END);
     n = plain_shapes[form].length;
-    length = (size_t)ftell(file) - 2;
+    length = (size_t)(ftell(file) - head);
     stream = malloc(length + 1);
     marks = malloc(length + 1);
     records = malloc((length / n + 1) * sizeof *records);
-    if (!stream || !marks || !records || fseek(file, 2, SEEK_SET) || fread(stream, 1, length, file) != length) {
+    if (!stream || !marks || !records || fseek(file, head, SEEK_SET) || fread(stream, 1, length, file) != length) {
         perror(name);
         exit(1);
     }

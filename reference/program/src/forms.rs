@@ -1,4 +1,4 @@
-//! The two calls over all nine forms, with the tests that do not depend on the bytes.
+//! The two calls over all ten forms, with the tests that do not depend on the bytes.
 
 use crate::record::{Date, Fraction, Record};
 use crate::{block, frame, serial};
@@ -14,8 +14,26 @@ pub fn string_length(form: u32) -> Option<usize> {
         6 => Some(16),
         7 => Some(24),
         8 => Some(100),
+        10 => Some(29),
         _ => None,
     }
+}
+
+/// The forms that a stream is searched and listened for. Their numbers have a gap, since the SAT
+/// string came after the frame and the block.
+pub const SERIAL_FORMS: [u32; 8] = [1, 2, 3, 4, 5, 6, 7, 10];
+
+/// The length of a serial string; none for the frame, the block and a number that is no form.
+pub fn serial_length(form: u32) -> Option<usize> {
+    if SERIAL_FORMS.contains(&form) {
+        string_length(form)
+    } else {
+        None
+    }
+}
+
+fn is_form(form: u32) -> bool {
+    (1..=10).contains(&form)
 }
 
 /// Form 9 has no one length: a block has 118..174 bytes.
@@ -29,7 +47,7 @@ fn length_fits(form: u32, length: usize) -> bool {
 /// Reads a string of a form: tests in the order 1, 2, 3, 6, 4, 5. The record of a refused read is
 /// the empty record, `Record::default()`.
 pub fn read(form: u32, input: &[u8]) -> Result<Record, u32> {
-    if !(1..=9).contains(&form) {
+    if !is_form(form) {
         return Err(1);
     }
     if !length_fits(form, input.len()) {
@@ -44,6 +62,7 @@ pub fn read(form: u32, input: &[u8]) -> Result<Record, u32> {
         6 => serial::read_sysplex(input),
         7 => serial::read_computime(input),
         8 => frame::read_frame(input),
+        10 => serial::read_sat(input),
         _ => block::read_block(input),
     }
 }
@@ -75,6 +94,7 @@ pub(crate) fn carried_fields_are_there(form: u32, record: &Record) -> bool {
         6 => record.date.is_some() && sync,
         7 => full_date,
         8 => full_date && sync && summer && offset && record.dsp.is_some() && record.lsp.is_some(),
+        10 => full_date && sync && utc && summer && change,
         _ => true,
     }
 }
@@ -98,6 +118,7 @@ fn spell(form: u32, record: &Record) -> Vec<u8> {
         6 => serial::write_sysplex(record),
         7 => serial::write_computime(record),
         8 => frame::write_frame(record),
+        10 => serial::write_sat(record),
         _ => block::write_block(record),
     }
 }
@@ -105,7 +126,7 @@ fn spell(form: u32, record: &Record) -> Vec<u8> {
 /// Writes a record as a string of a form: tests in the order 1, 7, 8, 9, 10. A refused write
 /// changes no byte; one that succeeds leaves the bytes behind its output.
 pub fn write(form: u32, record: &Record, out: &mut [u8]) -> Result<usize, u32> {
-    if !(1..=9).contains(&form) {
+    if !is_form(form) {
         return Err(1);
     }
     if record.is_bad() {

@@ -2,7 +2,7 @@
 
 use crate::block::KEYS;
 use crate::calendar;
-use crate::forms::{carried_fields_are_there, string_length, write};
+use crate::forms::{carried_fields_are_there, string_length, write, SERIAL_FORMS};
 use crate::frame::{bits, digits, is_always_zero, is_mark, put, put_parity};
 use crate::protocol::{hex, spell_fields};
 use crate::record::{Date, Fraction, Position, Record};
@@ -175,12 +175,14 @@ fn full_record(form: u32, random: &mut Random) -> Record {
     record
 }
 
-/// A good record that the form can write, some of the fields it does not carry absent.
+/// A good record that the form can write, some or all of the fields it does not carry absent.
 pub fn good_record(form: u32, random: &mut Random) -> Record {
     let mut record = full_record(form, random);
+    // The block carries every field, and needs none.
+    let bare = form != 9 && random.one_in(8);
     for field in 0..13 {
         let thinner = without(&record, field);
-        if random.one_in(3) && carried_fields_are_there(form, &thinner) {
+        if (bare || random.one_in(3)) && carried_fields_are_there(form, &thinner) {
             record = thinner;
         }
     }
@@ -203,11 +205,12 @@ fn other_byte(form: u32, old: u8, random: &mut Random) -> u8 {
         1 => old ^ (1 << random.below(8)),
         2 => old.wrapping_add(random.pick(&[1, 255])),
         _ if form == 8 => random.pick(&[0, 1, 2, 3]),
+        _ if form == 10 => random.pick(b" 0123456789.:/#*!AUTCESMZutces\x02\x03\r\n"),
         _ => random.pick(usual),
     }
 }
 
-fn one_byte_changed(form: u32, mut s: Vec<u8>, random: &mut Random) -> Vec<u8> {
+pub(crate) fn one_byte_changed(form: u32, mut s: Vec<u8>, random: &mut Random) -> Vec<u8> {
     let place = random.below(s.len());
     s[place] = other_byte(form, s[place], random);
     s
@@ -267,6 +270,7 @@ fn date_places(form: u32) -> Option<(usize, usize, usize)> {
         4 => Some((7, 10, 13)),
         5 => Some((3, 5, 7)),
         7 => Some((2, 5, 8)),
+        10 => Some((7, 4, 1)),
         _ => None,
     }
 }
@@ -280,6 +284,7 @@ fn time_places(form: u32) -> [usize; 3] {
         4 => [16, 19, 22],
         5 => [9, 11, 13],
         6 => [5, 8, 11],
+        10 => [12, 15, 18],
         _ => [14, 17, 20],
     }
 }
@@ -290,6 +295,7 @@ fn weekday_place(form: u32) -> Option<(usize, usize)> {
         1 => Some((14, 1)),
         3 => Some((11, 1)),
         7 => Some((11, 2)),
+        10 => Some((10, 1)),
         _ => None,
     }
 }
@@ -374,6 +380,33 @@ fn bend_erlangen(s: &mut [u8], random: &mut Random) {
     }
 }
 
+/// The three words, the German ones of documents 001 and 002, shortened and lengthened words, small
+/// letters, and words padded otherwise or standing elsewhere.
+const ZONES: &str = "UTC |CET |CEST|UTC |CET |CEST|MEZ |MESZ|UT  |U   |CE  |CES |C   |    \
+    |UTCS|UTCU|CETS|CESS|CEET|utc |cet |cest|Utc |UTc |CEsT|CESt|mez | UTC| CET| CES\
+    |U TC|UT C|C ET|UTC\t|UTC\0|UTC_|UTC0|CET#|CET!|CET\r|GMT |BST |EET |EEST|WET |MSK \
+    |TUC |TEC |CTE |ESTC";
+
+/// A word in place of the zone, or letters of the string or of other strings in place of u and v.
+fn bend_sat(s: &mut [u8], random: &mut Random) {
+    match random.below(4) {
+        0 | 1 => put_text(s, 20, random.pick_of(ZONES)),
+        2 => s[24] = random.pick(b"# #*!AU"),
+        _ => s[25] = random.pick(b"! !A#*S"),
+    }
+}
+
+/// A string whose zone has no space behind it, as the manuals print the layout, or one too many, or
+/// the space in front; the word that has four letters loses one of them.
+fn other_padding(mut s: Vec<u8>, random: &mut Random) -> Vec<u8> {
+    match random.below(3) {
+        0 => drop(s.remove(23)),
+        1 => s.insert(24, b' '),
+        _ => s[20..24].rotate_right(1),
+    }
+    s
+}
+
 /// A bend of what this form alone has.
 fn bend_own(form: u32, s: &mut [u8], random: &mut Random) {
     match form {
@@ -383,6 +416,7 @@ fn bend_own(form: u32, s: &mut [u8], random: &mut Random) {
         4 => s[29 + random.below(2)] = random.pick(b"0123456789ABCDEFabcG"),
         5 => s[random.below(3)] = random.pick(b"XGUxgu"),
         6 => s[13] = random.pick(b" ??#*"),
+        10 => bend_sat(s, random),
         _ => put_digits(s, 11, 2, random.pick(&[0, 1, 7, 8, 10, 17, 99])),
     }
 }
@@ -658,7 +692,7 @@ fn random_elements(random: &mut Random) -> Vec<u8> {
         .collect()
 }
 
-/// The endless list of inputs for one form, 1..9.
+/// The endless list of inputs for one form, 1..10.
 #[derive(Clone, Debug)]
 pub struct Inputs {
     form: u32,
@@ -701,6 +735,7 @@ impl Iterator for Inputs {
             }
             22 if form == 8 => random_elements(random),
             22 if form == 9 => too_long_block(),
+            22 if form == 10 => other_padding(s, random),
             22 | 23 => shuffled(&s, random),
             // Two defects at once: which of them is named first?
             _ => {
@@ -714,7 +749,7 @@ impl Iterator for Inputs {
 /// The first byte of a serial string, with which a false start is made.
 fn start_byte(form: u32) -> u8 {
     match form {
-        1 | 3 => 0x02,
+        1 | 3 | 10 => 0x02,
         2 => b'C',
         4 => b'>',
         5 => b'X',
@@ -740,9 +775,10 @@ pub fn stream(form: u32, random: &mut Random) -> Vec<u8> {
             }
             9 => stream.extend(vec![start_byte(form); 1 + random.below(3)]),
             10 => {
-                let other = random.between(1, 7) as u32;
+                let other = random.pick(&SERIAL_FORMS);
                 stream.extend(valid_string(other, random));
             }
+            _ if form == 10 => stream.extend(other_padding(s, random)),
             // Document 002, section 3.3, what a clock sends between capture strings.
             _ => stream.extend(b"*** capture overrun\r\n"),
         }
@@ -819,6 +855,10 @@ pub fn any_record(form: u32, random: &mut Random) -> Record {
     if random.one_in(4) {
         spoil(&mut record, random);
     }
+    if form == 10 && random.one_in(16) {
+        record.utc = Some(true);
+        record.summer = Some(true);
+    }
     record
 }
 
@@ -866,6 +906,13 @@ fn feed_request(form: u32, random: &mut Random) -> String {
     format!("feed {form} {distance} {} {byte:02x}", hex(&kept))
 }
 
+/// Numbers that no reader and no writer knows; one of them is 10 in its low eight bits.
+const NOT_A_FORM: [u32; 6] = [0, 11, 12, 255, 266, u32::MAX];
+
+/// Numbers that search and listener do not know, and form 10, which a stream of another form is
+/// then searched for.
+const NOT_THIS_FORM: [u32; 9] = [0, 8, 9, 10, 11, 12, 255, 266, u32::MAX];
+
 /// The endless list of requests over all forms and kinds.
 #[derive(Clone, Debug)]
 pub struct Requests {
@@ -877,7 +924,7 @@ pub struct Requests {
 impl Requests {
     pub fn new(seed: u64) -> Self {
         let mut random = Random::new(seed);
-        let inputs = (1..=9)
+        let inputs = (1..=10)
             .map(|form| Inputs::new(form, random.next_u64()))
             .collect();
         let turn = 0;
@@ -890,14 +937,14 @@ impl Requests {
 
     fn read_request(&mut self, form: u32) -> String {
         let input = self.inputs[form as usize - 1].next().unwrap_or_default();
-        let form = self.sometimes_wrong(form, &[0, 10, 12, u32::MAX]);
+        let form = self.sometimes_wrong(form, &NOT_A_FORM);
         format!("read {form} {}", hex(&input))
     }
 
     fn write_request(&mut self, form: u32) -> String {
         let record = any_record(form, &mut self.random);
         let length = buffer_length(form, &record, &mut self.random);
-        let form = self.sometimes_wrong(form, &[0, 10, 12, u32::MAX]);
+        let form = self.sometimes_wrong(form, &NOT_A_FORM);
         format!("writeraw {form} {} {length}", spell_fields(&record))
     }
 
@@ -908,19 +955,19 @@ impl Requests {
             2 => self.random.below(stream.len() + 1),
             _ => self.random.below(stream.len() + 40),
         };
-        let form = self.sometimes_wrong(form, &[0, 8, 9, 10, u32::MAX]);
+        let form = self.sometimes_wrong(form, &NOT_THIS_FORM);
         format!("search {form} {start} {}", hex(&stream))
     }
 
     fn listen_request(&mut self, form: u32) -> String {
         let stream = stream(form, &mut self.random);
-        let form = self.sometimes_wrong(form, &[0, 8, 9, 10, u32::MAX]);
+        let form = self.sometimes_wrong(form, &NOT_THIS_FORM);
         format!("listen {form} {}", hex(&stream))
     }
 
     fn feed_request(&mut self, form: u32) -> String {
         if self.random.one_in(40) {
-            let wrong = self.random.pick(&[0, 8, 9, 10, u32::MAX]);
+            let wrong = self.random.pick(&NOT_THIS_FORM);
             return format!("feed {wrong} {} - 58", self.random.below(3));
         }
         feed_request(form, &mut self.random)
@@ -939,8 +986,8 @@ impl Iterator for Requests {
     type Item = String;
 
     fn next(&mut self) -> Option<String> {
-        let form = (self.turn % 9) as u32 + 1;
-        let kind = self.turn / 9 % 10;
+        let form = (self.turn % 10) as u32 + 1;
+        let kind = self.turn / 10 % 10;
         self.turn += 1;
         let serial_form = match form {
             8 | 9 => self.random.between(1, 7) as u32,
@@ -958,6 +1005,8 @@ impl Iterator for Requests {
 
 #[cfg(test)]
 mod tests {
+    use std::collections::{BTreeMap, BTreeSet};
+
     use super::*;
     use crate::protocol::answer;
     use crate::{read, search, Heard, Listener};
@@ -965,7 +1014,7 @@ mod tests {
     /// The numbers that a reader of a form can answer.
     fn possible_answers(form: u32) -> &'static [u32] {
         match form {
-            1 | 3 | 7 | 9 => &[0, 2, 3, 4, 5],
+            1 | 3 | 7 | 9 | 10 => &[0, 2, 3, 4, 5],
             4 => &[0, 2, 3, 4, 6],
             8 => &[0, 2, 3, 4, 5, 6],
             _ => &[0, 2, 3, 4],
@@ -974,7 +1023,7 @@ mod tests {
 
     #[test]
     fn every_possible_answer_occurs_and_no_other() {
-        for form in 1..=9 {
+        for form in 1..=10 {
             let mut seen = [0; 14];
             for input in Inputs::new(form, 1).take(5000) {
                 seen[read(form, &input).err().unwrap_or(0) as usize] += 1;
@@ -989,7 +1038,7 @@ mod tests {
 
     #[test]
     fn every_refusal_of_a_writer_occurs() {
-        for form in 1..=9 {
+        for form in 1..=10 {
             let mut random = Random::new(u64::from(form));
             let mut seen = [0; 14];
             for _ in 0..5000 {
@@ -1014,7 +1063,7 @@ mod tests {
 
     #[test]
     fn an_accepted_input_written_again_is_the_same_bytes() {
-        for form in 1..=9 {
+        for form in 1..=10 {
             for input in Inputs::new(form, 2).take(5000) {
                 let Ok(record) = read(form, &input) else {
                     continue;
@@ -1082,7 +1131,7 @@ mod tests {
 
     #[test]
     fn repeated_search_and_the_listener_agree() {
-        for form in 1..=7 {
+        for form in SERIAL_FORMS {
             let mut random = Random::new(u64::from(form));
             let mut number = 0;
             for _ in 0..500 {
@@ -1101,6 +1150,49 @@ mod tests {
         assert!(requests.iter().all(|request| answer(request) != "?"));
         assert!(Requests::new(5).take(5000).eq(requests.iter().cloned()));
         assert!(!Requests::new(6).take(50).eq(requests.into_iter().take(50)));
+    }
+
+    #[test]
+    fn every_word_in_place_of_the_zone_has_four_letters() {
+        for word in ZONES.split('|') {
+            assert_eq!(word.len(), 4, "{word}");
+        }
+    }
+
+    /// How an answer begins, a record and a list of records in short.
+    fn beginning(answer: &str) -> &str {
+        let word = answer.split(' ').next().unwrap_or_default();
+        match word {
+            _ if word.starts_with("64617465") => "record",
+            _ if word.contains(':') => "records",
+            _ => word,
+        }
+    }
+
+    #[test]
+    fn the_requests_of_form_10_and_its_neighbours_meet_every_answer() {
+        let mut seen: BTreeMap<String, BTreeSet<String>> = BTreeMap::new();
+        for request in Requests::new(8).take(40_000) {
+            let answer = answer(&request);
+            let kind: Vec<&str> = request.split(' ').take(2).collect();
+            let answers = seen.entry(kind.join(" ")).or_default();
+            answers.insert(beginning(&answer).to_string());
+        }
+        let met = |kind: &str| seen[kind].iter().cloned().collect::<Vec<_>>().join(" ");
+        assert_eq!(met("read 10"), "0 2 3 4 5");
+        assert_eq!(met("writeraw 10"), "0 10 7 8");
+        assert_eq!(met("search 10"), "0 12");
+        assert_eq!(met("listen 10"), "- records");
+        assert_eq!(met("feed 10"), "!11 !13 - record");
+        for wrong in [0, 8, 9, 11, 12, 255, 266, u32::MAX] {
+            assert_eq!(met(&format!("search {wrong}")), "1");
+            assert_eq!(met(&format!("listen {wrong}")), "1");
+            assert_eq!(met(&format!("feed {wrong}")), "!11");
+        }
+        for wrong in NOT_A_FORM {
+            assert_eq!(met(&format!("read {wrong}")), "1");
+            assert_eq!(met(&format!("writeraw {wrong}")), "1");
+        }
     }
 
     #[test]

@@ -1,7 +1,8 @@
-//! A second, independent implementation of document 01 ("Time strings, the frame and the block").
+//! A second, independent implementation of document 01 ("Time strings, the frame and the block")
+//! and of document 02, W-201 (the SAT string, form 10).
 //!
-//! It was written from the document alone, to be compared with the verified library. It is meant
-//! to be read beside the document, not to be fast.
+//! It was written from these papers and the manuals alone, to be compared with the verified
+//! library. It is meant to be read beside the papers, not to be fast.
 
 // A remainder of 0 is the plainer word for the calendar.
 #![allow(clippy::manual_is_multiple_of)]
@@ -20,6 +21,8 @@ pub mod serial;
 
 #[cfg(test)]
 mod bench;
+#[cfg(test)]
+mod sat;
 #[cfg(test)]
 mod vectors;
 

@@ -1,6 +1,6 @@
 //! Section "Listening": the listener for a stream of one serial form.
 
-use crate::forms::{read, string_length};
+use crate::forms::{read, serial_length};
 use crate::record::Record;
 
 /// A listener's state. The fields are open, so that any state can be put together and fed.
@@ -20,15 +20,6 @@ pub enum Heard {
     Record(Record),
     /// 11 or 13.
     Refused(u32),
-}
-
-/// The length of a serial form, 1..7.
-fn serial_length(form: u32) -> Option<usize> {
-    if (1..=7).contains(&form) {
-        string_length(form)
-    } else {
-        None
-    }
 }
 
 impl Listener {
@@ -121,7 +112,7 @@ mod tests {
 
     #[test]
     fn a_wrong_form_answers_1_and_then_11() {
-        for form in [0, 8, 9, 10, u32::MAX] {
+        for form in [0, 8, 9, 11, 12, 266, u32::MAX] {
             let (refusal, listener) = Listener::start(form);
             assert_eq!(refusal, 1);
             assert_eq!((listener.form, listener.distance), (0, 0));

@@ -5,7 +5,7 @@ use std::io::{self, Read, Write};
 use crate::block::write_block;
 use crate::listener::{Heard, Listener};
 
-/// The form of the first line: "one byte `1`..`7`, LF".
+/// The form of the first line: "one byte `1`..`7`, LF". So form 10 cannot be asked for here.
 fn form_of(head: &[u8]) -> Option<u32> {
     match head {
         [digit @ b'1'..=b'7', b'\n'] => Some(u32::from(digit - b'0')),
@@ -58,6 +58,10 @@ mod tests {
     #[test]
     fn a_bad_or_missing_first_line_is_refused() {
         for input in [&b""[..], b"1", b"8\n", b"0\n", b"1x", b"11\n", b"\n"] {
+            assert_eq!(printed(input), "refused=1\n");
+        }
+        // Form 10 has two digits; the byte behind `9` is no digit.
+        for input in [&b"10\n"[..], b"10", b":\n", b"A\n", b"\n\n"] {
             assert_eq!(printed(input), "refused=1\n");
         }
         assert_eq!(printed(b"7\n"), "end bytes=0 telegrams=0\n");

@@ -266,7 +266,8 @@ mod tests {
     fn the_requests_are_answered() {
         let racal = hex(b"XGU000229000000\r");
         assert!(answer(&format!("read 5 {racal}")).starts_with("0 646174653d30302d30322d32390a"));
-        assert_eq!(answer("read 10 -"), "1");
+        assert_eq!(answer("read 11 -"), "1");
+        assert_eq!(answer("read 10 -"), "2");
         assert_eq!(answer("read 5 -"), "2");
         let fields = "full:0:2:29,0:0:0,-,-,-,-,-,-,-,-,-,-,-,-";
         assert_eq!(
@@ -280,8 +281,11 @@ mod tests {
         assert!(answer(&format!("listen 5 58{racal}")).starts_with("17:64617465"));
         assert_eq!(answer("listen 5 -"), "-");
         assert_eq!(answer("listen 8 0000"), "1 1!11 2!11");
+        assert_eq!(answer("listen 10 0000"), "-");
         assert_eq!(answer("feed 5 16 - 58"), "- 5 16 58");
         assert_eq!(answer("feed 5 17 - 58"), "!11 5 17 -");
+        assert_eq!(answer("feed 10 29 - 02"), "- 10 29 02");
+        assert_eq!(answer("feed 10 30 - 02"), "!11 10 30 -");
         assert_eq!(answer("reed 5 -"), "?");
     }
 

@@ -1,15 +1,12 @@
 //! The search for the first valid string of a serial form in a lent slice.
 
-use crate::forms::{read, string_length};
+use crate::forms::{read, serial_length};
 use crate::record::Record;
 
 /// The first place at or after `start` where a valid string lies wholly in the input, and its
-/// record; else 1 (form not 1..7) or else 12. A place counts from the input's first byte.
+/// record; else 1 (form not 1..7 or 10) or else 12. A place counts from the input's first byte.
 pub fn search(form: u32, input: &[u8], start: usize) -> Result<(usize, Record), u32> {
-    if !(1..=7).contains(&form) {
-        return Err(1);
-    }
-    let length = string_length(form).expect("a serial form has a length");
+    let length = serial_length(form).ok_or(1u32)?;
     let mut place = start;
     while place < input.len() && input.len() - place >= length {
         if let Ok(record) = read(form, &input[place..place + length]) {
@@ -45,7 +42,7 @@ mod tests {
 
     #[test]
     fn a_wrong_form_is_1_before_12() {
-        for form in [0, 8, 9, 10, u32::MAX] {
+        for form in [0, 8, 9, 11, 12, 266, u32::MAX] {
             assert_eq!(search(form, RACAL, 99), Err(1));
         }
     }

@@ -1,6 +1,6 @@
-//! The seven serial strings, forms 1 to 7. Every reader here gets an input of the right length
-//! and makes its passes in the order 3 (spelling), 6 (sum), 4 (ranges), 5 (disagreement). Every
-//! writer here gets a record that has passed the tests 7, 8 and 9.
+//! The eight serial strings, forms 1 to 7 and 10. Every reader here gets an input of the right
+//! length and makes its passes in the order 3 (spelling), 6 (sum), 4 (ranges), 5 (disagreement).
+//! Every writer here gets a record that has passed the tests 7, 8 and 9.
 
 use crate::calendar;
 use crate::record::{
@@ -269,6 +269,59 @@ pub fn read_computime(s: &[u8]) -> Result<Record, u32> {
     Ok(record_of(date, time))
 }
 
+/// A word of the zone in a SAT string, and what it says.
+struct Zone {
+    word: &'static str,
+    utc: bool,
+    summer: bool,
+}
+
+/// The words of document 004, section 12.2.2, filled up to four letters with spaces behind. The
+/// German words of the other two manuals are none.
+const ZONES: [Zone; 3] = [
+    Zone {
+        word: "UTC ",
+        utc: true,
+        summer: false,
+    },
+    Zone {
+        word: "CET ",
+        utc: false,
+        summer: false,
+    },
+    Zone {
+        word: "CEST",
+        utc: false,
+        summer: true,
+    },
+];
+
+/// Form 10: `<STX>dd.mm.yy/w/hh:mm:ssxxxxuv<CR><LF><ETX>`.
+pub fn read_sat(s: &[u8]) -> Result<Record, u32> {
+    require(spelled(s, b"\x02##.##.##/#/##:##:##~~~~~~\r\n\x03"), 3)?;
+    let (word, u, v) = (&s[20..24], s[24], s[25]);
+    let spells_it = |zone: &&Zone| zone.word.as_bytes() == word;
+    let zone = ZONES.iter().find(spells_it).ok_or(3u32)?;
+    require(u == b'#' || u == b' ', 3)?;
+    require(v == b'!' || v == b' ', 3)?;
+
+    let date = date_at(s, 7, 4, 1);
+    let weekday = number(&s[10..11]);
+    let time = time_at(s, 12, 15, 18);
+    check_ranges(date, time)?;
+    require((1..=7).contains(&weekday), 4)?;
+
+    require(weekday == calendar::weekday(date.0, date.1, date.2), 5)?;
+    Ok(Record {
+        // The table of 004 has `#` here, "clock has not synchronized": sync, and nothing of fix.
+        sync: Some(u == b' '),
+        utc: Some(zone.utc),
+        summer: Some(zone.summer),
+        change: Some(v == b'!'),
+        ..record_of(date, time)
+    })
+}
+
 /// The full date of a record that has one.
 pub(crate) fn full_date(record: &Record) -> (u32, u32, u32) {
     match record.date {
@@ -398,6 +451,19 @@ pub fn write_computime(record: &Record) -> Vec<u8> {
     let ww = calendar::weekday(yy, mm, dd);
     let (hour, minute, second) = (record.hour, record.minute, record.second);
     format!("T:{yy:02}:{mm:02}:{dd:02}:{ww:02}:{hour:02}:{minute:02}:{second:02}\r\n").into_bytes()
+}
+
+pub fn write_sat(record: &Record) -> Vec<u8> {
+    let (yy, mm, dd) = full_date(record);
+    let w = calendar::weekday(yy, mm, dd);
+    let (hour, minute, second) = (record.hour, record.minute, record.second);
+    let fits = |zone: &&Zone| (Some(zone.utc), Some(zone.summer)) == (record.utc, record.summer);
+    let zone = ZONES.iter().find(fits);
+    let xxxx = zone.expect("tests 7 and 8 have been passed").word;
+    let u = letter_for_no(record.sync, '#');
+    let v = letter(record.change, '!');
+    format!("\x02{dd:02}.{mm:02}.{yy:02}/{w}/{hour:02}:{minute:02}:{second:02}{xxxx}{u}{v}\r\n\x03")
+        .into_bytes()
 }
 
 #[cfg(test)]

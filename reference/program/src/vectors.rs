@@ -72,12 +72,17 @@ fn the_bench() {
 
 #[test]
 fn the_manuals() {
-    assert_eq!(check("manuals.txt"), 16);
+    assert_eq!(check("manuals.txt"), 19);
 }
 
 #[test]
 fn strings_from_outside() {
     assert_eq!(check("outside.txt"), 21);
+}
+
+#[test]
+fn sat_strings() {
+    assert_eq!(check("sat.txt"), 104);
 }
 
 #[test]

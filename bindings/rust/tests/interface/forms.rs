@@ -3,7 +3,7 @@ use lindenscoop::{
     Refusal,
 };
 
-const NAMES: [&str; 9] = [
+const NAMES: [&str; 10] = [
     "standard",
     "capture",
     "erlangen",
@@ -13,6 +13,7 @@ const NAMES: [&str; 9] = [
     "computime",
     "frame",
     "block",
+    "sat",
 ];
 
 /// A record that every form can say.
@@ -67,6 +68,7 @@ fn the_constants_have_their_names() {
         Form::COMPUTIME,
         Form::FRAME,
         Form::BLOCK,
+        Form::SAT,
     ];
     assert_eq!(constants.map(|form| form.name()), NAMES.map(Some));
 }
@@ -76,8 +78,9 @@ fn other_words_and_numbers_are_no_forms() {
     for word in [
         "",
         "0",
-        "10",
+        "11",
         "05",
+        "010",
         "+5",
         " 5",
         "5 ",
@@ -85,15 +88,16 @@ fn other_words_and_numbers_are_no_forms() {
         "racal ",
         "4294967297",
         "RACAL1",
+        "SAT ",
     ] {
         let error = word.parse::<Form>().unwrap_err().to_string();
         assert!(
             error.starts_with(&format!("there is no form {word:?}; ")),
             "{error}"
         );
-        assert!(error.ends_with("standard (1), capture (2), erlangen (3), spa (4), racal (5), sysplex (6), computime (7), frame (8), block (9)"), "{error}");
+        assert!(error.ends_with("standard (1), capture (2), erlangen (3), spa (4), racal (5), sysplex (6), computime (7), frame (8), block (9), sat (10)"), "{error}");
     }
-    for number in [0, 10, 77, u32::MAX] {
+    for number in [0, 11, 77, u32::MAX] {
         assert_eq!(Form::try_from(number), Err(Refusal::UnknownForm));
         assert_eq!((Form(number).name(), Form(number).length()), (None, None));
         assert_eq!(Form(number).to_string(), number.to_string());
@@ -134,7 +138,7 @@ fn lengths_are_those_that_the_library_writes() {
 fn a_form_that_is_not_serial_is_refused_wherever_one_is_searched_or_listened_for() {
     let refused = Some(Refusal::UnknownForm);
     let bytes = b"XGU000229000000\r";
-    for number in [0, 8, 9, 10, 77, 256, 261, u32::MAX] {
+    for number in [0, 8, 9, 11, 15, 16, 26, 77, 256, 261, 266, u32::MAX] {
         let form = Form(number);
         assert!(!form.is_serial());
         assert_eq!(search(form, bytes, 0).err(), refused);
@@ -143,5 +147,9 @@ fn a_form_that_is_not_serial_is_refused_wherever_one_is_searched_or_listened_for
         assert_eq!(Listener::new(form).err(), refused);
         assert_eq!(mark(form, bytes, &mut [0; 16]).err(), refused);
     }
-    assert!((1..=7).all(|number| Form(number).is_serial()));
+    let serial = Form::ALL.iter().filter(|form| form.is_serial());
+    assert_eq!(
+        serial.map(|form| form.0).collect::<Vec<_>>(),
+        [1, 2, 3, 4, 5, 6, 7, 10]
+    );
 }

@@ -4,5 +4,6 @@ mod dates;
 mod forms;
 mod places;
 mod refusals;
+mod sat;
 mod states;
 mod writing;

@@ -43,12 +43,13 @@ fn record(form: Form, second: u32) -> Record {
 fn carried(form: Form, second: u32) -> Record {
     let is = |forms: &[Form]| forms.contains(&form);
     let both = is(&[Form::STANDARD, Form::ERLANGEN]);
+    let sat = is(&[Form::SAT]);
     Record {
-        sync: (both || is(&[Form::SYSPLEX])).then_some(false),
+        sync: (both || sat || is(&[Form::SYSPLEX])).then_some(false),
         fix: both.then_some(true),
-        utc: is(&[Form::STANDARD]).then_some(false),
-        summer: both.then_some(true),
-        change: both.then_some(true),
+        utc: (sat || is(&[Form::STANDARD])).then_some(false),
+        summer: (both || sat).then_some(true),
+        change: (both || sat).then_some(true),
         leap: both.then_some(false),
         offset: is(&[Form::ERLANGEN]).then_some(-210),
         position: is(&[Form::ERLANGEN]).then_some(Position {

@@ -75,9 +75,11 @@ fn way_block(stream: &Stream) -> usize {
 /// The stream behind its first line, and its records, which are to be written.
 fn load(name: &str) -> Result<Stream, Box<dyn Error>> {
     let mut bytes = fs::read(name)?;
-    let form = u32::from(bytes[0] - b'0');
-    bytes.drain(..2);
-    let length = reference::forms::string_length(form).ok_or("no such form")?;
+    let end = bytes.iter().position(|byte| *byte == b'\n');
+    let end = end.ok_or("no first line")?;
+    let form = std::str::from_utf8(&bytes[..end])?.parse()?;
+    bytes.drain(..=end);
+    let length = reference::forms::serial_length(form).ok_or("no such form")?;
     let (mut at, mut records) = (0, Vec::new());
     while let Ok((place, record)) = search(form, &bytes, at) {
         records.push(record);
