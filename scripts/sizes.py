@@ -17,7 +17,7 @@ import tempfile
 
 ROOT = pathlib.Path(__file__).resolve().parent.parent
 LIBRARY = ROOT / "target/staticlib/liblindenscoop.a"
-NAMES = ("read", "write", "search", "start", "feed", "feed_all", "mark")
+NAMES = ("read", "write", "search", "start", "feed", "feed_all", "mark", "day_number")
 
 
 def output(*words, **more):

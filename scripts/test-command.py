@@ -415,6 +415,7 @@ def test_why():
     why("weekday of erlangen", ERLANGEN.replace(b"; 1;", b"; 2;"), "refused with 5", "the weekday, which is \"2\"")
     why("second 60 of erlangen", ERLANGEN.replace(b"00:00; +", b"00:60; +"), "refused with 5", "the letter of second 60")
     why("no such date", A.replace(b"01.01.24", b"30.02.24"), "refused with 4", "the day, which is \"30\"")
+    why("no such date and no such hour", RACAL.replace(b"0229000000", b"0431250000"), "refused with 4", "the day, which is \"31\"")
     why("hour", RACAL.replace(b"29000000", b"29240000"), "refused with 4", "the hour, which is \"24\"")
     why("wrong byte", A.replace(b"12.00", b"12:00"), "refused with 3", "fails at byte 20", "':' instead of '.'")
     why("cut", A * 2 + A[:9], "refused with 2", "begins at byte 64 and fails at byte 73", status=0)

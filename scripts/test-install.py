@@ -17,7 +17,7 @@ import traceback
 
 ROOT = pathlib.Path(__file__).resolve().parent.parent
 COMMANDS = ["listen", "export", "why", "write", "simulate"]
-FUNCTIONS = ["read", "write", "search", "start", "feed", "feed_all", "mark", "message"]
+FUNCTIONS = ["read", "write", "search", "start", "feed", "feed_all", "mark", "day_number", "message"]
 VERSION = subprocess.run([ROOT / "scripts/version"], capture_output=True, text=True).stdout.strip()
 SO = "liblindenscoop.so"
 LINKED = SO + "." + VERSION.split(".")[0]
@@ -101,7 +101,7 @@ def test_exports(prefix, _):
     names = run("nm", "-D", "--defined-only", prefix / "lib" / SO).stdout.split("\n")
     declared = set(re.findall(r"^LINDENSCOOP_NOT_NULL uint32_t (\w+)\(", header, re.M))
     same("exported names", {line.split()[-1] for line in names if line}, declared)
-    check("exported names are some", len(declared) == 7, declared)
+    check("exported names are some", len(declared) == 8, declared)
 
 
 # ---- From C, C++ and Python ----

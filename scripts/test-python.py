@@ -1,11 +1,12 @@
 #!/usr/bin/env python3
-"""The Python module over the shared library, which is made afresh for it: vectors, streams, fields, refusals, forms, and how it is found.
+"""The Python module over the shared library, which is made afresh for it: vectors, streams, fields, days, refusals, forms, and how it is found.
 
     scripts/test-python.py
 
 Needs a C compiler and `rt staticlib lindenscoop`. Its last line is 'N passed, M failed'.
 """
 import dataclasses
+import datetime
 import doctest
 import importlib
 import importlib.util
@@ -318,6 +319,40 @@ def test_values_of_another_type():
     same(str(ls.Fraction(7, 3)), "0.007", "a fraction as text")
 
 
+# ---- Days ----
+
+
+def counted(year, month, day):
+    """The number of a day by Python's own calendar; None where there is no such date of 2000 to 2099."""
+    try:
+        date = datetime.date(year, month, day)
+    except ValueError:
+        return None
+    return (date - datetime.date(2000, 1, 1)).days if 2000 <= year <= 2099 else None
+
+
+def test_every_day():
+    """Every date of the calendar and of the years beside it, with the days and months that there are not."""
+    dates = [(year, month, day) for year in range(1999, 2101) for month in range(14) for day in range(33)]
+    wrong = [date for date in dates if ls.day_number(*date) != counted(*date)]
+    same(wrong[:5], [], "dates whose numbers are not those of datetime")
+    numbers = [number for number in (ls.day_number(*date) for date in dates) if number is not None]
+    same(numbers, list(range((datetime.date(2100, 1, 1) - datetime.date(2000, 1, 1)).days)), "the days of 2000 to 2099 in their order")
+
+
+def test_days():
+    string = ls.read("racal", b"XGU240229000000\r").date
+    same(ls.day_number(string.year, string.month, string.day), 8825, "the day of a string")
+    for date, number in (((2000, 1, 1), 0), ((2000, 2, 29), 59), ((2001, 1, 1), 366), ((2099, 12, 31), 36524)):
+        same(ls.day_number(*date), number, f"{date}")
+    for wide in (-1, 0, 2**32, 2**32 + 1, 2**64, 2**64 + 1, -(2**32)):
+        for date in ((2000 + (wide or 100), 1, 1), (wide, 1, 1), (2024, wide, 1), (2024, 1, wide)):
+            check(ls.day_number(*date) is None, f"there is a number of {date}")
+    for wrong in (True, 1.0, "1", None):
+        for date in ((wrong, 1, 1), (2024, wrong, 1), (2024, 1, wrong)):
+            check(" not " in raises(TypeError, ls.day_number, *date), f"{date}: no TypeError that says what is needed")
+
+
 # ---- Refusals and forms ----
 
 
@@ -454,7 +489,7 @@ def test_how_the_library_is_found(made):
 
 
 def test_documentation():
-    for name in ("", ".codec", ".flat", ".form", ".library", ".listener", ".record", ".refusal"):
+    for name in ("", ".codec", ".days", ".flat", ".form", ".library", ".listener", ".record", ".refusal"):
         module = importlib.import_module(f"lindenscoop{name}")
         result = doctest.testmod(module)
         counts[True] += result.attempted - result.failed

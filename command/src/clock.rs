@@ -38,29 +38,41 @@ pub fn record(form: Form, now: SystemTime) -> Result<Record, Refusal> {
     })
 }
 
+/// 1 January 2000, from which the library counts, in days after 1 January 1970, from which this computer does.
+const CALENDAR_BEGINS: u64 = 10_957;
+
+/// The first day of each month of the library's calendar, with its number.
+fn first_days() -> impl Iterator<Item = (u32, u32, u32)> {
+    (0..).map_while(|months| {
+        let (year, month) = (months / 12, months % 12 + 1);
+        let first = Date::Full {
+            year,
+            month,
+            day: 1,
+        };
+        Some((year, month, first.day_number()?))
+    })
+}
+
 /// The date so many days after 1 January 1970, if it is of 2000 to 2099.
 fn date(days: u64) -> Option<Date> {
-    let mut left = days.checked_sub(10_957)?;
-    for year in 0..100 {
-        let leap = year % 4 == 0;
-        for month in 1..=12 {
-            let length = match month {
-                2 => 28 + u64::from(leap),
-                4 | 6 | 9 | 11 => 30,
-                _ => 31,
-            };
-            if left < length {
-                let day = left as u32 + 1;
-                return Some(Date::Full { year, month, day });
-            }
-            left -= length;
-        }
-    }
-    None
+    let number = u32::try_from(days.checked_sub(CALENDAR_BEGINS)?).ok()?;
+    let (year, month, first) = first_days()
+        .take_while(|(_, _, first)| *first <= number)
+        .last()?;
+    let date = Date::Full {
+        year,
+        month,
+        day: number - first + 1,
+    };
+    // behind the calendar's end the last month has no such day
+    (date.day_number() == Some(number)).then_some(date)
 }
 
 #[cfg(test)]
 mod tests {
+    use std::time::Duration;
+
     use super::*;
 
     #[test]
@@ -72,5 +84,27 @@ mod tests {
         assert_eq!(date(20_000), full(24, 10, 4));
         assert_eq!(date(47_481), full(99, 12, 31));
         assert_eq!(date(47_482), None);
+    }
+
+    #[test]
+    fn every_day_has_its_date() {
+        let numbers = (10_957..=47_481).map(|days| date(days).and_then(|date| date.day_number()));
+        assert!(numbers.eq((0..36_525).map(Some)));
+        for days in [0, 1, 10_956, 47_483, 1 << 31, 1 << 32, (1 << 32) + 10_957] {
+            assert_eq!(date(days), None);
+        }
+        assert_eq!(date(u64::MAX), None);
+    }
+
+    #[test]
+    fn times() {
+        let at = |seconds| record(Form::STANDARD, UNIX_EPOCH + Duration::from_secs(seconds));
+        let told = |record: Record| (record.date, [record.hour, record.minute, record.second]);
+        let leap_day = Date::of_full_year(2024, 2, 29);
+        assert_eq!(at(1_709_251_199).map(told), Ok((leap_day, [23, 59, 59])));
+        let next = Date::of_full_year(2024, 3, 1);
+        assert_eq!(at(1_709_251_200).map(told), Ok((next, [0, 0, 0])));
+        assert_eq!(at(946_684_799), Err(Refusal::BadRecord));
+        assert_eq!(at(4_102_444_800), Err(Refusal::BadRecord));
     }
 }

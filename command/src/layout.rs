@@ -1,6 +1,6 @@
 //! The layouts of the serial forms, to say where a string that is refused goes wrong. What is valid the library alone decides.
 
-use lindenscoop::{read, Form, Refusal};
+use lindenscoop::{read, Date, Form, Refusal};
 
 use crate::forms;
 
@@ -137,25 +137,40 @@ impl Layout {
         text.trim_start().parse().ok()
     }
 
-    /// The field whose number is out of its range; where each is in it there is no such date, or no such offset or position.
+    /// The date, whether there is such a one or not; None where the form has none.
+    fn date(&self, window: &[u8]) -> Option<Date> {
+        Some(Date::Full {
+            year: self.number(window, b'y')?,
+            month: self.number(window, b'm')?,
+            day: self.number(window, b'd')?,
+        })
+    }
+
+    /// Whether the number of a field is out of its range; of a day, whether the library's calendar has no such date.
+    fn is_out_of_range(&self, window: &[u8], letter: u8) -> bool {
+        let range = match letter {
+            b'd' => {
+                let date = self.date(window);
+                return date.is_some_and(|date| date.day_number().is_none());
+            }
+            b'n' => 0..=1,
+            b'j' => 1..=366,
+            b'm' => 1..=12,
+            b'w' => 1..=7,
+            b'H' => 0..=23,
+            b'M' => 0..=59,
+            _ => 0..=60,
+        };
+        let number = self.number(window, letter);
+        number.is_some_and(|number| !range.contains(&number))
+    }
+
+    /// The first field that is out of range: channel, day of year, month, day, weekday, hour, minute, second. Where each is in it an offset
+    /// or a position is not, and the day is told.
     fn out_of_range(&self, window: &[u8]) -> usize {
-        let ranges = [
-            (b'n', 0, 1),
-            (b'j', 1, 366),
-            (b'm', 1, 12),
-            (b'd', 1, 31),
-            (b'w', 1, 7),
-            (b'H', 0, 23),
-            (b'M', 0, 59),
-            (b'S', 0, 60),
-        ];
-        let field = ranges.into_iter().find(|(letter, least, most)| {
-            let number = self.number(window, *letter);
-            number.is_some_and(|number| number < *least || number > *most)
-        });
-        // the last day of a month is the last that can be too late
-        let letter = field.map_or(b'd', |(letter, _, _)| letter);
-        self.place_of(letter).unwrap_or(0)
+        let is_out = |letter: &u8| self.is_out_of_range(window, *letter);
+        let letter = b"njmdwHMS".iter().copied().find(is_out);
+        self.place_of(letter.unwrap_or(b'd')).unwrap_or(0)
     }
 }
 
@@ -312,6 +327,49 @@ mod tests {
         );
         assert_eq!(at(Form::RACAL, b"XGU000229000000\n"), Some((3, 15)));
         assert_eq!(at(Form::RACAL, b"XGU0002290000"), Some((2, 13)));
+    }
+
+    /// Which byte of a string that is out of range is pointed at, and what is told of it.
+    fn out_of_range(form: Form, string: &str) -> (usize, String) {
+        let (refusal, at) = failure(form, string.as_bytes()).unwrap();
+        assert_eq!(refusal, Refusal::OutOfRange, "{string:?}");
+        (at, described(form, string.as_bytes(), at))
+    }
+
+    #[test]
+    fn a_day_that_its_month_does_not_have() {
+        let standard = "\x02D:01.01.24;T:1;U:12.00.00;  U \x03";
+        let hour = |string: &str| string.replace("U:12", "U:25");
+        for date in ["30.02.24", "29.02.23", "31.04.24", "31.11.99", "32.01.24"] {
+            let string = standard.replace("01.01.24", date);
+            let day = (3, format!("in the day, which is \"{}\"", &date[..2]));
+            assert_eq!(out_of_range(Form::STANDARD, &string), day);
+            assert_eq!(out_of_range(Form::STANDARD, &hour(&string)), day);
+            let weekday = string.replace("T:1", "T:8");
+            assert_eq!(out_of_range(Form::STANDARD, &weekday), day);
+        }
+        let day = "in the day, which is \"00\"".to_string();
+        let string = hour(&standard.replace("01.01.24", "00.01.24"));
+        assert_eq!(out_of_range(Form::STANDARD, &string), (3, day));
+        let told = "in the hour, which is \"25\"".to_string();
+        assert_eq!(out_of_range(Form::STANDARD, &hour(standard)), (18, told));
+    }
+
+    /// Channel, day of year and month are told before the day, and all of them before the time.
+    #[test]
+    fn fields_before_the_day() {
+        let at = |form, string: &str| out_of_range(form, string).0;
+        assert_eq!(
+            at(Form::STANDARD, "\x02D:32.13.24;T:1;U:25.00.00;  U \x03"),
+            6
+        );
+        assert_eq!(at(Form::CAPTURE, "CH2 31.04.24 25:00:00.0000000\r\n"), 2);
+        assert_eq!(at(Form::CAPTURE, "CH1 31.04.24 25:00:00.0000000\r\n"), 4);
+        assert_eq!(at(Form::RACAL, "XGU240431250000\r"), 7);
+        assert_eq!(at(Form::RACAL, "XGU240001250000\r"), 5);
+        assert_eq!(at(Form::COMPUTIME, "T:23:02:29:08:25:00:00\r\n"), 8);
+        assert_eq!(at(Form::SYSPLEX, "\x01367:25:00:00 \r\n"), 1);
+        assert_eq!(at(Form::SYSPLEX, "\x01366:25:00:00 \r\n"), 5);
     }
 
     #[test]

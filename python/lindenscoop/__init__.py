@@ -14,6 +14,7 @@ A field that was not in the string is None; a damaged string raises `Refused` wi
 given as `Form.RACAL`. The shared library is made by `python/make-shared.sh`; LINDENSCOOP_LIBRARY names another one.
 """
 from .codec import Found, read, search, write, write_into
+from .days import day_number
 from .form import Form
 from .listener import Listener, heard
 from .record import Date, DayOfYear, Fraction, Position, Record
@@ -30,6 +31,7 @@ __all__ = [
     "Record",
     "Refusal",
     "Refused",
+    "day_number",
     "heard",
     "read",
     "search",

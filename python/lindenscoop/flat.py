@@ -29,12 +29,17 @@ def _flag(value: Optional[bool], what: str) -> int:
     return 0 if value is None else 1 + value
 
 
+def full_date(date: Date) -> List[int]:
+    """Year, month and day in which a date crosses; the year has lost its century."""
+    year = _whole(date.year, "year") - 2000
+    return [crossing(year), _number(date.month, "month"), _number(date.day, "day")]
+
+
 def _date(date: Optional[Union[Date, DayOfYear]]) -> List[int]:
     if date is None:
         return [0, 0, 0, 0, 0]
     if isinstance(date, Date):
-        year = _whole(date.year, "year") - 2000
-        return [1, crossing(year), _number(date.month, "month"), _number(date.day, "day"), 0]
+        return [1, *full_date(date), 0]
     if isinstance(date, DayOfYear):
         return [2, 0, 0, 0, _number(date.day, "day of year")]
     raise TypeError(f"a date is a Date, a DayOfYear or None, not {date!r}")

@@ -28,6 +28,7 @@ _FUNCTIONS = {
     "search": [ctypes.c_uint32, ctypes.c_void_p, _size, _size, _place, _numbers, _size],
     "start": [ctypes.c_uint32, _state, _size],
     "feed_all": [_state, _size, ctypes.c_void_p, _size, _place, _numbers, _size],
+    "day_number": [ctypes.c_uint32, ctypes.c_uint32, ctypes.c_uint32, _numbers],
 }
 
 

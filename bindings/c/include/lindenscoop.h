@@ -7,13 +7,14 @@
  *
  * There are two layers. The exported functions, lindenscoop_..._raw, whose contracts are proved, take each buffer as a pointer
  * and a length, in elements; crates/lindenscoop/specs defines what they answer, the comments here say it in words. Over
- * them stands what a C program calls: lindenscoop_read and so on, which take the structs below, and lindenscoop_get_offset and
- * so on, which say whether a field of a record is there and hand out its value. A flag of no is stored as 1 and the number of
- * an absent field as 0, so `if (record.sync)` and a bare `record.offset_minutes` would mislead.
+ * them stands what a C program calls: lindenscoop_read and so on, which take the structs below, lindenscoop_day_number, which
+ * takes a year with its century, and lindenscoop_get_offset and so on, which say whether a field of a record is there and hand
+ * out its value. A flag of no is stored as 1 and the number of an absent field as 0, so `if (record.sync)` and a bare
+ * `record.offset_minutes` would mislead.
  *
  * What the exported functions ask of their caller, and nothing else:
  *   - a pointer is not null, also where the length behind it is 0, and is aligned for its type;
- *   - behind it stand as many elements as the length says, one for a size_t *;
+ *   - behind it stand as many elements as the length says, and one where it has no length: a size_t *, and number;
  *   - what stands behind a pointer that is not const overlaps no other argument.
  * Every value and every length, 0 included, is answered.
  *
@@ -24,11 +25,11 @@
  *   - a call that is refused otherwise leaves every buffer as it was, but for these: a refused read or search stores
  *     the empty record, a start that is refused with 1 stores a state that answers every byte with 11, and 13 moves
  *     the listener on;
- *   - a size_t is stored by every call. *written and *place are 0 after every refusal. *used is the number of bytes
- *     that were fed, a refused one included, and 0 after LINDENSCOOP_SHORT_BUFFER.
+ *   - a size_t and *number are stored by every call. *written, *place and *number are 0 after every refusal. *used is
+ *     how many bytes were fed, a refused one included, and 0 after LINDENSCOOP_SHORT_BUFFER.
  *
  * What the functions over the structs ask: the same, except that a pointer to bytes may be null where its length is 0.
- * Pointers to structs and to size_t are not null.
+ * Pointers to structs, to size_t and to days are not null.
  */
 #ifndef LINDENSCOOP_H
 #define LINDENSCOOP_H
@@ -207,13 +208,17 @@ LINDENSCOOP_NOT_NULL uint32_t lindenscoop_feed_all_raw(uint8_t *state, size_t st
 /* Runs a new listener over bytes: marks[i] is 1 where byte i completes a valid string, else 0, for each of them.
    1: the form is not serial. 10: marks_length is below bytes_length. Tested in this order; neither changes a mark. */
 LINDENSCOOP_NOT_NULL uint32_t lindenscoop_mark_raw(uint32_t form, const uint8_t *bytes, size_t bytes_length, uint8_t *marks, size_t marks_length);
+
+/* The days from 1 January 2000 to a date, in *number: 0 for that day itself. The year is 0..99, meaning 2000 and later.
+   4: there is no such date (a year above 99, a month that is none, a day that the month does not have); *number is 0. */
+LINDENSCOOP_NOT_NULL uint32_t lindenscoop_day_number_raw(uint32_t year, uint32_t month, uint32_t day, uint32_t *number);
 #undef LINDENSCOOP_NOT_NULL
 
 #ifdef __cplusplus
 }
 #endif
 
-/* ---- The same over the structs. ---- */
+/* ---- The same over the structs, and years with their century. ---- */
 
 #ifdef __cplusplus
 #define LINDENSCOOP_CAST(type, value) static_cast<type>(value)
@@ -280,6 +285,14 @@ static inline uint32_t lindenscoop_mark(uint32_t form, const void *bytes, size_t
 {
     uint8_t none = 0;
     return lindenscoop_mark_raw(form, lindenscoop_bytes(bytes), length, marks ? marks : &none, marks_length);
+}
+
+/* The days from 1 January 2000 to a date of 2000 to 2099. *days is 0 for that day itself and where there is no such date, so
+   the answer, LINDENSCOOP_OK or LINDENSCOOP_OUT_OF_RANGE, must be looked at. */
+static inline uint32_t lindenscoop_day_number(uint32_t year, uint32_t month, uint32_t day, uint32_t *days)
+{
+    /* A year before 2000 wraps round to one far above 99. */
+    return lindenscoop_day_number_raw(year - 2000, month, day, days);
 }
 
 /* What an answer means. The texts of the refusals are those of README.md, "What a refusal means". */

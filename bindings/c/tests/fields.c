@@ -1,9 +1,10 @@
 /*
- * The header's functions over records and structs, on values that are known. Compiled as C and as C++, under the sanitizers.
+ * The header's functions over records, structs and dates, on values that are known. Compiled as C and as C++, under the sanitizers.
  * Records come from blocks, form 9, which spell every field.
  */
 #include <stdio.h>
 #include <string.h>
+#include <time.h>
 
 #include "lindenscoop.h"
 
@@ -301,6 +302,66 @@ static void check_forms_of_states(void)
     }
 }
 
+static void check_day(uint32_t year, uint32_t month, uint32_t day, uint32_t expected)
+{
+    uint32_t days = 77, number = 77;
+    CHECK(lindenscoop_day_number(year, month, day, &days) == LINDENSCOOP_OK && days == expected);
+    CHECK(lindenscoop_day_number_raw(year - 2000, month, day, &number) == LINDENSCOOP_OK && number == expected);
+}
+
+static void check_no_day(uint32_t year, uint32_t month, uint32_t day)
+{
+    uint32_t days = 77, number = 77;
+    CHECK(lindenscoop_day_number(year, month, day, &days) == LINDENSCOOP_OUT_OF_RANGE && days == 0);
+    CHECK(lindenscoop_day_number_raw(year - 2000, month, day, &number) == LINDENSCOOP_OUT_OF_RANGE && number == 0);
+}
+
+static void check_days(void)
+{
+    static const uint32_t none[] = {0, 32, 100, 0x80000000u, 0xffffffffu};
+    static const uint32_t years[] = {0, 24, 99, 1900, 1999, 2100, 2400, 4000, 0x800007d0u, 0xffffffffu};
+    uint32_t number = 77;
+    check_day(2000, 1, 1, 0);
+    check_day(2000, 2, 29, 59);
+    check_day(2000, 12, 31, 365);
+    check_day(2001, 1, 1, 366);
+    check_day(2024, 2, 29, 8825);
+    check_day(2099, 12, 31, 36524);
+    check_no_day(2023, 2, 29);
+    check_no_day(2024, 2, 30);
+    check_no_day(2099, 4, 31);
+    check_no_day(2024, 13, 1);
+    for (size_t i = 0; i < sizeof none / sizeof *none; i++) {
+        check_no_day(2024, none[i], 1);
+        check_no_day(2024, 1, none[i]);
+    }
+    for (size_t i = 0; i < sizeof years / sizeof *years; i++)
+        check_no_day(years[i], 1, 1);
+    CHECK(lindenscoop_day_number_raw(2024, 1, 1, &number) == LINDENSCOOP_OUT_OF_RANGE && number == 0);
+}
+
+/* The number of every date of the calendar is one more than that of the date before, and between two dates of the C library's own
+   calendar, gmtime, there is none. */
+static void check_every_day(void)
+{
+    const time_t first = 946684800; /* 1 January 2000 */
+    const struct tm *next = gmtime(&first);
+    uint32_t count = 0;
+    for (uint32_t year = 2000; year <= 2099; year++)
+        for (uint32_t month = 0; month <= 13; month++)
+            for (uint32_t day = 0; day <= 32; day++) {
+                bool exists = next->tm_year + 1900L == year && next->tm_mon + 1L == month && next->tm_mday + 0L == day;
+                uint32_t days = 77;
+                CHECK(lindenscoop_day_number(year, month, day, &days) == (exists ? LINDENSCOOP_OK : LINDENSCOOP_OUT_OF_RANGE));
+                CHECK(days == (exists ? count : 0u));
+                if (exists) {
+                    const time_t at = first + 86400L * ++count;
+                    next = gmtime(&at);
+                }
+            }
+    CHECK(next->tm_year == 200 && next->tm_mon == 0 && next->tm_mday == 1);
+}
+
 int main(void)
 {
     lindenscoop_record r = record_of(absent);
@@ -317,6 +378,8 @@ int main(void)
     check_sat();
     check_sat_refused();
     check_forms_of_states();
+    check_days();
+    check_every_day();
     printf("fields: %u passed, %u failed\n", passed, failed);
     return failed ? 1 : 0;
 }

@@ -372,6 +372,26 @@ static void call_mark(void)
     CHECK(is_filled(marks + length, room - length));
 }
 
+/* A date has a number where a string can be written of it, and the day behind it in its month has the next one */
+static void call_day_number(void)
+{
+    lindenscoop_record r;
+    uint8_t out[LINDENSCOOP_LONGEST_STRING];
+    size_t written = 0;
+    uint32_t next = 77;
+    memset(&r, 0, sizeof r);
+    r.date = LINDENSCOOP_FULL_DATE;
+    r.year = sometimes(draw(100), draw(2) ? 100 + draw(2000) : 0xffffffffu - draw(3));
+    r.month = sometimes(1 + draw(12), draw(2) ? draw(14) : 0xffffffffu - draw(3));
+    r.day = sometimes(draw(34), 0xffffffffu - draw(3));
+    uint32_t *number = lend(0, NULL, sizeof *number);
+    uint32_t answer = seen(lindenscoop_day_number_raw(r.year, r.month, r.day, number));
+    CHECK(answer == (lindenscoop_write(LINDENSCOOP_BLOCK, &r, out, sizeof out, &written) == LINDENSCOOP_OK ? 0u : 4u));
+    CHECK(answer == 0 || *number == 0);
+    if (answer == 0 && lindenscoop_day_number(2000 + r.year, r.month, r.day + 1, &next) == LINDENSCOOP_OK)
+        CHECK(next == *number + 1);
+}
+
 /* Null with length 0, where the header allows it */
 static void call_with_null(void)
 {
@@ -389,7 +409,7 @@ static void call_with_null(void)
 
 int main(int argc, char **argv)
 {
-    static void (*const all[])(void) = {call_read, call_write, call_search, call_start, call_feed, call_feed_byte, call_overlap, call_mark, call_with_null};
+    static void (*const all[])(void) = {call_read, call_write, call_search, call_start, call_feed, call_feed_byte, call_overlap, call_mark, call_day_number, call_with_null};
     unsigned long long most = argc > 2 ? strtoull(argv[2], NULL, 10) : 200000;
     if (argc > 1)
         seed = strtoull(argv[1], NULL, 10);

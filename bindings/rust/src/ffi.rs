@@ -61,6 +61,7 @@ extern "C" {
         marks: *mut u8,
         marks_length: usize,
     ) -> u32;
+    fn lindenscoop_day_number_raw(year: u32, month: u32, day: u32, number: *mut u32) -> u32;
 }
 
 pub fn read(form: u32, input: &[u8]) -> (u32, FlatRecord) {
@@ -152,4 +153,10 @@ pub fn mark(form: u32, bytes: &[u8], marks: &mut [u8]) -> u32 {
             marks.len(),
         )
     }
+}
+
+pub fn day_number(year: u32, month: u32, day: u32) -> (u32, u32) {
+    let mut days = 0;
+    let number = unsafe { lindenscoop_day_number_raw(year, month, day, &mut days) };
+    (number, days)
 }

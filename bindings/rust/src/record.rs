@@ -1,5 +1,7 @@
 //! The record of a time string. A field that was not sent is `None`.
 
+use crate::ffi;
+
 /// A date: whole, or a day of year alone.
 #[derive(Clone, Copy, Debug, PartialEq, Eq, Hash)]
 pub enum Date {
@@ -29,6 +31,26 @@ impl Date {
     pub fn full_year(self) -> Option<u32> {
         match self {
             Date::Full { year, .. } if year <= 99 => Some(2000 + year),
+            _ => None,
+        }
+    }
+
+    /// The days from 1 January 2000 to the date; `None` for a day of year alone, and where the calendar has no such date.
+    ///
+    /// ```
+    /// use lindenscoop::Date;
+    ///
+    /// assert_eq!(Date::Full { year: 0, month: 1, day: 1 }.day_number(), Some(0));
+    /// assert_eq!(Date::Full { year: 24, month: 2, day: 29 }.day_number(), Some(8825));
+    /// assert_eq!(Date::Full { year: 23, month: 2, day: 29 }.day_number(), None);
+    /// assert_eq!(Date::DayOfYear(60).day_number(), None);
+    /// ```
+    pub fn day_number(&self) -> Option<u32> {
+        let Date::Full { year, month, day } = *self else {
+            return None;
+        };
+        match ffi::day_number(year, month, day) {
+            (0, days) => Some(days),
             _ => None,
         }
     }

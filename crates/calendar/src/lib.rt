@@ -25,19 +25,15 @@ fn is_month(y: u32, m: u32) -> bool
     (y < 100) & ((1 <= m) & (m <= 12))
 }
 
-// The days of month `m` of the year 2000 + `y`, and 0 for a month that the calendar does not have: what lies between two entries of the
-// table. December is the last of its row.
+// The days of month `m` of the year 2000 + `y`, and 0 for a month that the calendar does not have: what lies between its entry in the table
+// and the next.
 pub fn month_length(y: u32, m: u32) -> u32
     ensures { λ r. ⌜ r ≡ monthLength y m ⌝ }
 {
     if !is_month(y, m) {
         return 0;
     }
-    if m == 12 {
-        return 31;
-    }
-    let row = table::row(y);
-    table::entry(row, m + 1) - table::entry(row, m)
+    table::first_of(y, m + 1) - table::first_of(y, m)
 }
 
 // Whether the calendar has day `d` of month `m` of the year 2000 + `y`.
@@ -47,8 +43,8 @@ pub fn is_date(y: u32, m: u32, d: u32) -> bool
     if !is_month(y, m) {
         return false;
     }
-    // Every month has 28 days, so only a later day needs a look at the table, and the test is short enough to be inlined.
-    if d <= 28 {
+    // No month is shorter than February 2001, whose days the compiler works out: only a later day needs a look at its own month.
+    if d <= month_length(1, 2) {
         return 1 <= d;
     }
     d <= month_length(y, m)
@@ -59,7 +55,7 @@ fn number_of(y: u32, m: u32, d: u32) -> u32
     requires { ⌜ isDate y m d ≡ true ⌝ }
     ensures { λ r. ⌜ r ≡ dayNumber y m d ⌝ }
 {
-    table::entry(table::row(y), m) + (d - 1)
+    table::first_of(y, m) + (d - 1)
 }
 
 // The day of the year of a date of the calendar: what lies between two entries of the table, and the day.
@@ -67,8 +63,7 @@ fn day_in_year(y: u32, m: u32, d: u32) -> u32
     requires { ⌜ isDate y m d ≡ true ⌝ }
     ensures { λ r. ⌜ r ≡ dayOfYear y m d ⌝ }
 {
-    let row = table::row(y);
-    table::entry(row, m) - table::entry(row, 1) + d
+    table::first_of(y, m) - table::first_of(y, 1) + d
 }
 
 // The days from 1 January 2000 to a date, where there is one.
@@ -106,28 +101,25 @@ pub fn day_of_year(y: u32, m: u32, d: u32) -> Day
     }
 }
 
-// The date of day `n` of the year 2000 + `y`: it falls into the last month that has fewer days of the year before it.
+// The date of day `n` of the year 2000 + `y`: what is left of `n` behind the months before is a day of the first month that has such a day.
 pub fn date_of_day(y: u32, n: u32) -> MonthDay
     ensures { λ r. ⌜ r ≡ dateOfDay y n ⌝ }
 {
     if 100 <= y {
         return MonthDay::NoSuchDate;
     }
-    let row = table::row(y);
-    let january = table::entry(row, 1);
-    if table::entry(row, 12) - january + 31 < n {
+    if n == 0 {
         return MonthDay::NoSuchDate;
     }
-    let mut m: u32 = 12;
-    while 1 <= m {
-        let before = table::entry(row, m) - january;
-        if before < n {
-            return MonthDay::On {
-                month: m,
-                day: n - before,
-            };
+    let january = table::first_of(y, 1);
+    // No month is longer than January 2000, so the day falls into no month before this one.
+    let mut m: u32 = (n - 1) / month_length(0, 1) + 1;
+    while m <= 12 {
+        let day = n - (table::first_of(y, m) - january);
+        if is_date(y, m, day) {
+            return MonthDay::On { month: m, day };
         }
-        m -= 1;
+        m += 1;
     }
     MonthDay::NoSuchDate
 }

@@ -1,25 +1,15 @@
 -- A digit over 9 makes its place tell a number beyond all others, which is outside its range in each of the five places.
-use Rattle.cond.proofs.Kit.{[], _<_, _∙_, _∷_, _≡_, _≤_, ap, arith, Bool, eqb, eqb-true, false, false≢true, leb-true, length, List, ltb, ltb-true, not, refl, sym, true, ℕ}
-use Rattle.cond.specs.Pick.{pick}
+use Rattle.cond.proofs.Kit.{[], _<_, _∙_, _∷_, _≡_, _≤_, ap, arith, eqb, eqb-true, false, false≢true, leb-true, length, List, ltb, ltb-true, not, refl, sym, true, ℕ}
 use Rattle.cond.proofs.Tests.{both, either-way}
-use Rattle.calendar.specs.Answers.{dateOfDay}
-use Rattle.calendar.specs.Calendar.{isDate}
-use Rattle.calendar.specs.declared.MonthDay.{MonthDay}
-use Rattle.calendar.specs.declared.MonthDay.the-variants as monthDay
-use Rattle.calendar.proofs.DayOfYear.{found-day}
 use Rattle.calendar.proofs.Ranges.{date-range, ordinal-range}
 use Rattle.spelling.specs.Bytes.{allAre, digit, gap, groupsLimit, groupsWidth}
 use Rattle.record.specs.Answers.{readNumber}
-use Rattle.record.specs.Record.{dateInRange, dateTimeInRange, inRange, timeInRange}
-use Rattle.record.specs.declared.answer.Reading.{Reading}
-use Rattle.record.specs.declared.answer.Reading.the-variants as reading
-use Rattle.record.specs.declared.refusal.Refusal.the-variants as refusal
-use Rattle.forms.specs.All.{isOneOf}
+use Rattle.record.specs.Record.{dateTimeInRange, inRange, timeInRange}
 use Rattle.forms.specs.BcdDigits.{BcdDigits, bcdDigits, hasDigitOver9}
 use Rattle.forms.specs.Carries.{carriesOf}
 use Rattle.forms.specs.Checksum.{checksumsHold}
 use Rattle.forms.specs.Decode.{decode}
-use Rattle.forms.specs.Fields.Date.{dateOn, decodeDate}
+use Rattle.forms.specs.Fields.Date.{decodeDate}
 use Rattle.forms.specs.Form.{carries, rangeTests, ranges, readBy, readLayout, validated, valuesBy}
 use Rattle.forms.specs.Forms.{formKindOf, readAs, readForm}
 use Rattle.forms.specs.Frame.{frame}
@@ -28,19 +18,9 @@ use Rattle.forms.specs.Slots.{hour, minute, ordinal, second, year}
 use Rattle.forms.proofs.Accepted.{read-validated}
 use Rattle.forms.proofs.All.{test-at}
 use Rattle.forms.proofs.Allowed.{append-all}
+use Rattle.forms.proofs.FrameDate.{told}
 use Rattle.forms.proofs.GroupDigits.{decimal, digitsAt, isDecimal}
-
--- a year and a day of it that are a date
-dated : (y n : ℕ) → dateInRange (dateOn y (dateOfDay y n)) ≡ true → (y < 100) × (n ≤ 366)
-unfolding dateInRange isDate
-dated y n h = go (dateOfDay y n) refl h
-  where
-    go : (a : MonthDay) → dateOfDay y n ≡ a → dateInRange (dateOn y a) ≡ true → (y < 100) × (n ≤ 366)
-    go (monthDay.On m d) e h =
-        let f = found-day y n m d e in
-        let c = date-range y m d (f .0) in
-        (c .years, omega (arith, ordinal-range y m d c))
-    go monthDay.NoSuchDate e h = absurd (false≢true h)
+use Rattle.forms.proofs.Tests.{after}
 
 module _ (s : List ℕ) (l : length s ≡ 100) (h : ranges (carries frame) (valuesBy frame s) ≡ true) where
   inside : inRange (decode (carries frame) (valuesBy frame s)) ≡ true
@@ -63,13 +43,14 @@ module _ (s : List ℕ) (l : length s ≡ 100) (h : ranges (carries frame) (valu
       let e = both (timeInRange (v hour) (v minute) (v second)) _ (a .0) in
       let b = both (ltb (v hour) 24) _ (e .0) in
       let c = both (ltb (v minute) 60) _ (b .1) in
-      let d = dated (v year) (v ordinal) (e .1) in
+      let t = told (v year) (v ordinal) (e .1) in
+      let d = date-range _ _ _ (t .is .0) in
       record {
         hours = ltb-true (v hour) 24 (b .0);
         minutes = ltb-true (v minute) 60 (c .0);
         seconds = leb-true (v second) 60 (c .1);
-        years = d .0;
-        days = d .1;
+        years = d .years;
+        days = omega (arith, ordinal-range _ _ _ d, t .is .1);
       }
 
   all-decimal : allAre isDecimal (bcdDigits s) ≡ true
@@ -94,15 +75,6 @@ over-ranges s l h =
 over-four : (s : List ℕ) → length s ≡ 100 → hasDigitOver9 s ≡ true → readNumber (validated (carries frame) (valuesBy frame s)) ≡ 4
 unfolding validated
 over-four s l h = simp (over-ranges s l h)
-
--- the tests before
-after : (a b c : Bool) (x : Reading) → (a ≡ true → readNumber x ≡ 4)
-    → isOneOf (2 ∷ 3 ∷ 6 ∷ []) (readNumber (pick a (pick b (pick c x (reading.Refused refusal.WrongChecksum)) (reading.Refused refusal.WrongByte)) (reading.Refused refusal.WrongLength))) ≡ false
-    → readNumber (pick a (pick b (pick c x (reading.Refused refusal.WrongChecksum)) (reading.Refused refusal.WrongByte)) (reading.Refused refusal.WrongLength)) ≡ 4
-after true true true x h n = h refl
-after true true false x h n = absurd (false≢true (sym n))
-after true false c x h n = absurd (false≢true (sym n))
-after false b c x h n = absurd (false≢true (sym n))
 
 pub bcd-digits : BcdDigits
 unfolding readForm formKindOf readAs readBy readLayout

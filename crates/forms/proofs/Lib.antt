@@ -46,4 +46,5 @@ pub mod Demand2
 pub mod Worded
 pub mod WriterNumbers
 pub mod GroupDigits
+pub mod FrameDate
 pub mod BcdDigits

@@ -97,9 +97,30 @@ satCases =
     ∷ writes "buffer of 28" 10 (recordSat Yes) 28 10 []
     ∷ []
 
+-- a frame's record with this date, and all else as in L
+abbrev pub framedOn : ℕ → ℕ → ℕ → Record
+framedOn y m d = framedOf (dateIs.Full y m d) 0 0 0 Yes No (offsetIs.Minutes (pos 0)) No No
+
+-- W-202: the way back from a year and a day of year, in leap years and others, and at the calendar's ends
+abbrev pub calendarCases : List Case
+calendarCases =
+    reads "day 60 of 2024" 8 (onesAt (36 ∷ 37 ∷ 52 ∷ 56 ∷ [])) 0 (framedOn 24 2 29)
+    ∷ reads "day 60 of 2023" 8 (onesAt (36 ∷ 37 ∷ 50 ∷ 51 ∷ 56 ∷ 75 ∷ [])) 0 (framedOn 23 3 1)
+    ∷ reads "day 366 of 2024" 8 (onesAt (31 ∷ 32 ∷ 36 ∷ 37 ∷ 40 ∷ 41 ∷ 52 ∷ 56 ∷ [])) 0 (framedOn 24 12 31)
+    ∷ reads "day 366 of 2023" 8 (onesAt (31 ∷ 32 ∷ 36 ∷ 37 ∷ 40 ∷ 41 ∷ 50 ∷ 51 ∷ 56 ∷ 75 ∷ [])) 4 emptyRecord
+    ∷ reads "day 0 of 2024" 8 (onesAt (52 ∷ 56 ∷ [])) 4 emptyRecord
+    ∷ reads "day 1 of 2000" 8 (onesAt (30 ∷ 75 ∷ [])) 0 (framedOn 0 1 1)
+    ∷ reads "day 365 of 2099" 8 (onesAt (30 ∷ 32 ∷ 36 ∷ 37 ∷ 40 ∷ 41 ∷ 50 ∷ 53 ∷ 55 ∷ 58 ∷ [])) 0 (framedOn 99 12 31)
+    ∷ writes "1 March 2023" 6 (syncedOf (dateIs.Full 23 3 1) 0 0 0 Yes) 16 0 (text "\u{1}060:00:00:00 \r\n")
+    ∷ writes "1 March 2024" 6 (syncedOf (dateIs.Full 24 3 1) 0 0 0 Yes) 16 0 (text "\u{1}061:00:00:00 \r\n")
+    ∷ reads "Thursday, 31 December 2099" 10 (text "\u{2}31.12.99/4/00:00:00UTC   \r\n\u{3}") 0
+    (standardOf (dateIs.Full 99 12 31) 0 0 0 Yes Absent Yes No No Absent)
+    ∷ []
+
 -- the tabled claim
 pub record Bench : Type 0 where
   pub cases-hold : Holds cases
   pub known-hold : Holds known
   pub further-hold : Holds further
   pub sat-hold : Holds satCases
+  pub calendar-hold : Holds calendarCases

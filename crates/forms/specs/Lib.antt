@@ -24,3 +24,4 @@ pub mod Valid
 pub mod Columns
 pub mod WriterNumbers
 pub mod BcdDigits
+pub mod FrameDate

@@ -8,3 +8,4 @@ pub mod Chained
 pub mod Repeated
 pub mod Index
 pub mod Version
+pub mod Calendar

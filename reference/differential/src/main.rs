@@ -1,6 +1,6 @@
-//! Compares the library with the independent reference program on seeded requests, and with the vectors.
+//! Compares the library with the independent reference program on seeded requests and over the whole calendar, and with the vectors.
 //!
-//!     differential SEED COUNT VECTORS  compares COUNT requests and every line of VECTORS
+//!     differential SEED COUNT VECTORS  compares COUNT requests, every date and every line of VECTORS
 //!     differential VECTORS             compares the lines alone
 //!
 //! VECTORS is a file of lines, or a folder whose `.txt` files have them; vectors/README.md describes a line. A mismatch is printed and fails. Before that it plants a fault on either side, and fails if that is not noticed.
@@ -11,6 +11,7 @@ use std::error::Error;
 use std::path::Path;
 use std::process::ExitCode;
 
+use reference::every_date;
 use reference::generate::Requests;
 
 mod answers;
@@ -37,6 +38,13 @@ fn notices_faults(seed: u64) -> bool {
     })
 }
 
+/// How many differing answers of the calendar are printed.
+const PRINTED: usize = 20;
+
+fn print_mismatch(request: &str, library: &str, reference: &str) {
+    println!("mismatch: {request}\n  library   {library}\n  reference {reference}");
+}
+
 /// How many requests were compared, and how many answers differ.
 fn compare(seed: u64, count: usize) -> (usize, usize) {
     let mut compared: BTreeMap<String, usize> = BTreeMap::new();
@@ -51,7 +59,7 @@ fn compare(seed: u64, count: usize) -> (usize, usize) {
         let reference = reference::protocol::answer(&request);
         if !agree(&library, &reference) {
             mismatches += 1;
-            println!("mismatch: {request}\n  library   {library}\n  reference {reference}");
+            print_mismatch(&request, &library, &reference);
         }
     }
     for (kind, number) in compared.iter().filter(|(_, number)| **number >= 20) {
@@ -59,6 +67,24 @@ fn compare(seed: u64, count: usize) -> (usize, usize) {
     }
     println!("differential: {asked} of {count} requests compared, {mismatches} differ");
     (asked, mismatches)
+}
+
+/// Compares every date and every day of year; whether there are any and all agree. The library can be asked each of them.
+fn calendar_agrees() -> bool {
+    let (mut compared, mut differ) = (0, 0);
+    for request in every_date::requests() {
+        let library = answers::answer(&request).unwrap_or("not asked".into());
+        let reference = reference::protocol::answer(&request);
+        compared += 1;
+        if !agree(&library, &reference) {
+            differ += 1;
+            if differ <= PRINTED {
+                print_mismatch(&request, &library, &reference);
+            }
+        }
+    }
+    println!("calendar: {compared} requests compared, {differ} differ");
+    compared > 0 && differ == 0
 }
 
 /// Compares the lines of a file or folder; whether there are any and all agree.
@@ -80,7 +106,8 @@ fn main() -> Result<ExitCode, Box<dyn Error>> {
                 return Err("a planted fault was not noticed".into());
             }
             let (asked, mismatches) = compare(seed, count.parse()?);
-            vectors_agree(path)? && asked > 0 && mismatches == 0
+            let calendar = calendar_agrees();
+            vectors_agree(path)? && calendar && asked > 0 && mismatches == 0
         }
         _ => return Err("usage: differential [SEED COUNT] VECTORS".into()),
     };

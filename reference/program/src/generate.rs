@@ -256,7 +256,7 @@ fn shuffled(s: &[u8], random: &mut Random) -> Vec<u8> {
     s.iter().map(|_| random.pick(s)).collect()
 }
 
-fn put_digits(s: &mut [u8], place: usize, width: usize, value: u32) {
+pub(crate) fn put_digits(s: &mut [u8], place: usize, width: usize, value: u32) {
     let text = format!("{value:0width$}");
     s[place..place + width].copy_from_slice(text.as_bytes());
 }
@@ -290,7 +290,7 @@ fn time_places(form: u32) -> [usize; 3] {
 }
 
 /// Where the weekday stands and how wide it is.
-fn weekday_place(form: u32) -> Option<(usize, usize)> {
+pub(crate) fn weekday_place(form: u32) -> Option<(usize, usize)> {
     match form {
         1 => Some((14, 1)),
         3 => Some((11, 1)),
@@ -328,14 +328,18 @@ const DATES: [(u32, u32, u32); 22] = [
 
 const DAYS_OF_YEAR: [u32; 9] = [0, 1, 59, 60, 365, 366, 367, 399, 999];
 
+/// Puts year, month and day where they stand.
+pub(crate) fn put_date(form: u32, s: &mut [u8], date: (u32, u32, u32)) {
+    if let Some((year, month, day)) = date_places(form) {
+        put_digits(s, year, 2, date.0);
+        put_digits(s, month, 2, date.1);
+        put_digits(s, day, 2, date.2);
+    }
+}
+
 fn bend_date(form: u32, s: &mut [u8], random: &mut Random) {
     match date_places(form) {
-        Some((year, month, day)) => {
-            let date = random.pick(&DATES);
-            put_digits(s, year, 2, date.0);
-            put_digits(s, month, 2, date.1);
-            put_digits(s, day, 2, date.2);
-        }
+        Some(_) => put_date(form, s, random.pick(&DATES)),
         None => put_digits(s, 1, 3, random.pick(&DAYS_OF_YEAR)),
     }
 }

@@ -9,6 +9,7 @@
 
 pub mod block;
 pub mod calendar;
+pub mod every_date;
 pub mod forms;
 pub mod frame;
 pub mod generate;

@@ -89,3 +89,8 @@ fn sat_strings() {
 fn frames() {
     assert_eq!(check("frames.txt"), 40);
 }
+
+#[test]
+fn the_calendar() {
+    assert_eq!(check("calendar.txt"), 117);
+}

@@ -1,4 +1,4 @@
-use lindenscoop::{read, Date, Form, Fraction};
+use lindenscoop::{append, read, Date, Form, Fraction, Record};
 
 #[test]
 fn a_full_year_has_its_century() {
@@ -33,6 +33,58 @@ fn there_is_no_full_year_of_anything_else() {
             None
         );
     }
+}
+
+fn number(year: u32, month: u32, day: u32) -> Option<u32> {
+    Date::Full { year, month, day }.day_number()
+}
+
+#[test]
+fn days_are_counted_from_1_january_2000() {
+    assert_eq!(number(0, 1, 1), Some(0));
+    assert_eq!(number(0, 2, 29), Some(59));
+    assert_eq!(number(0, 12, 31), Some(365));
+    assert_eq!(number(1, 1, 1), Some(366));
+    assert_eq!(number(24, 2, 29), Some(8_825));
+    assert_eq!(number(99, 12, 31), Some(36_524));
+    let racal = read(Form::RACAL, b"XGU240229000000\r").unwrap().date;
+    assert_eq!(racal.and_then(|date| date.day_number()), Some(8_825));
+}
+
+#[test]
+fn what_is_no_date_has_no_number() {
+    for (year, month, day) in [(23, 2, 29), (24, 2, 30), (24, 4, 31), (24, 1, 32)] {
+        assert_eq!(number(year, month, day), None);
+    }
+    for other in [0, 100, 2024, u32::MAX] {
+        assert_eq!(number(24, other, 1), None);
+        assert_eq!(number(24, 1, other), None);
+    }
+    for year in [100, 1999, 2000, 2024, u32::MAX] {
+        assert_eq!(number(year, 1, 1), None);
+    }
+    for day in [0, 1, 60, 366, u32::MAX] {
+        assert_eq!(Date::DayOfYear(day).day_number(), None);
+    }
+}
+
+/// The dates that a record may have are those with a number, and each has one more than the date before.
+#[test]
+fn every_day_is_counted() {
+    let mut count = 0;
+    for year in 0..=100 {
+        for (month, day) in (0..=13).flat_map(|month| (0..=32).map(move |day| (month, day))) {
+            let date = Date::Full { year, month, day };
+            let record = Record {
+                date: Some(date),
+                ..Record::default()
+            };
+            let exists = append(Form::RACAL, &record, &mut Vec::new()).is_ok();
+            assert_eq!(date.day_number(), exists.then_some(count), "{date:?}");
+            count += u32::from(exists);
+        }
+    }
+    assert_eq!(count, 36_525);
 }
 
 /// Of the string itself, so that the kinds are the library's.

@@ -1,4 +1,4 @@
-//! What programs rest on beside the library's own answers: forms by name, places in a stream, refusals as errors, stored states, vectors, years.
+//! What programs rest on beside the library's own answers: forms by name, places in a stream, refusals as errors, stored states, vectors, years, days.
 
 mod dates;
 mod forms;
