@@ -1,11 +1,11 @@
 -- The answers in the paper's number and values: a test of the date decides three of them, and a search that has its laws the fourth.
-use Rattle.cond.proofs.Kit.{_∙_, _≡_, ap, arith, refl, sym, true, ℕ}
+use Rattle.cond.proofs.Kit.{_≡_, ap, arith, refl, true, ℕ}
 use Rattle.calendar.specs.declared.MonthDay.{MonthDay}
 use Rattle.calendar.specs.declared.MonthDay.the-variants as dateIs
 use Rattle.calendar.specs.Answers.{dateDay, dateMonth, dateOfDay, dateRefusal, ofDate}
 use Rattle.calendar.specs.Calendar.{dayNumber, dayOfYear, isDate, weekdayOf}
 use Rattle.calendar.specs.Values.{OfDate, OfDay, Values}
-use Rattle.calendar.proofs.DayOfYear.{day-found, found-day, found-none}
+use Rattle.calendar.proofs.DayOfYear.{day-of, found-day, found-none}
 
 of-date : (y m d n : ℕ) → OfDate y m d (ofDate y m d n) n
 of-date y m d n = record { there = λ h. rw h (refl, refl); none = λ h. rw h (refl, refl) }
@@ -15,7 +15,7 @@ of-day y n =
     record {
       there = λ h. go (dateOfDay y n) refl h;
       only = λ m d p e.
-          let f : dateOfDay y n ≡ dateIs.On m d = ap (dateOfDay y) (sym e) ∙ day-found y m d p in
+          let f = day-of y m d n p e in
           (ap dateRefusal f, ap dateMonth f, ap dateDay f);
       none = λ h.
           let f = found-none y n h in

@@ -101,7 +101,7 @@ pub fn day_of_year(y: u32, m: u32, d: u32) -> Day
     }
 }
 
-// The date of day `n` of the year 2000 + `y`: what is left of `n` behind the months before is a day of the first month that has such a day.
+// The date of day `n` of the year 2000 + `y`: month by month, what is left of `n` behind the months before, until the month has such a day.
 pub fn date_of_day(y: u32, n: u32) -> MonthDay
     ensures { λ r. ⌜ r ≡ dateOfDay y n ⌝ }
 {

@@ -5,7 +5,7 @@ use Rattle.calendar.specs.Answers.{dateOfDay}
 use Rattle.calendar.specs.Calendar.{isDate}
 use Rattle.calendar.specs.declared.MonthDay.{MonthDay}
 use Rattle.calendar.specs.declared.MonthDay.the-variants as monthDay
-use Rattle.calendar.proofs.DayOfYear.{day-found, found-day}
+use Rattle.calendar.proofs.DayOfYear.{day-of, found-day}
 use Rattle.record.specs.Answers.{readNumber}
 use Rattle.record.specs.Record.{dateInRange, dateTimeInRange, inRange, timeInRange}
 use Rattle.record.specs.declared.Record.{Record}
@@ -25,15 +25,12 @@ use Rattle.forms.proofs.Accepted.{accepted}
 use Rattle.forms.proofs.All.{test-at}
 use Rattle.forms.proofs.Tests.{after}
 
-day-date : (y n m d : ℕ) → IsDay y n m d → dateOfDay y n ≡ monthDay.On m d
-day-date y n m d h = ap (dateOfDay y) (sym (h .1)) ∙ day-found y m d (h .0)
-
 date-of : (v : Values) → decode (carries frame) v .date ≡ dateOn (v year) (dateOfDay (v year) (v ordinal))
 unfolding decodeDate carriesOf has
 date-of v = refl
 
 found : (v : Values) (m d : ℕ) → IsDay (v year) (v ordinal) m d → decode (carries frame) v .date ≡ dateOn (v year) (monthDay.On m d)
-found v m d h = date-of v ∙ ap (dateOn (v year)) (day-date (v year) (v ordinal) m d h)
+found v m d h = date-of v ∙ ap (dateOn (v year)) (day-of (v year) m d (v ordinal) (h .0) (h .1))
 
 -- a frame in its ranges tells a date
 in-range : (v : Values) → ranges (carries frame) v ≡ true → dateInRange (dateOn (v year) (dateOfDay (v year) (v ordinal))) ≡ true
@@ -51,7 +48,7 @@ told y n h = go (dateOfDay y n) refl h
 
     go : (a : MonthDay) → dateOfDay y n ≡ a → dateInRange (dateOn y a) ≡ true → TheDay y n (dateOn y a)
     go (monthDay.On m d) e h =
-        record { month = m; day = d; full = refl; is = found-day y n m d e; only = λ k f p. same m d k f (sym (day-date y n k f p) ∙ e) }
+        record { month = m; day = d; full = refl; is = found-day y n m d e; only = λ k f p. same m d k f (sym (day-of y k f n (p .0) (p .1)) ∙ e) }
     go monthDay.NoSuchDate e h = absurd (false≢true h)
 
 only : (s : List ℕ) (r : Record) → Accepts (readForm 8 s) r → TheDay (valuesBy frame s year) (valuesBy frame s ordinal) (r .date)
