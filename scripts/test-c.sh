@@ -46,7 +46,7 @@ for form in 1 2 3 4 5 6 7 10; do
     "$made/heard_csv" $form "$log.log" | cmp - "$log.csv"
     "$made/heard_csv" $form < "$log.log" | cmp - "$log.csv"
 done
-for form in 0 8 9 11 05 010 100 sat ''; do
+for form in 0 8 9 11 15 05 010 100 sat ''; do
     if "$made/heard_csv" "$form" samples/standard.log >"$made/other.csv" 2>"$made/other.log" \
         || ! grep -q 'refused with 1:' "$made/other.log" || [ -s "$made/other.csv" ]; then
         echo "test-c: heard_csv takes \"$form\" for a form" >&2

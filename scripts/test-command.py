@@ -33,6 +33,7 @@ SAT = b"\x0201.01.24/1/12:00:00UTC   \r\n\x03"
 SAT_BLOCK = (b"date=24-01-01\ntime=12:00:00\nfraction=-\nchannel=-\nsync=yes\nfix=-\nutc=yes\nsummer=no\nchange=no\nleap=-\n"
              b"offset=-\nposition=-\ndsp=-\nlsp=-\n\n")
 ERLANGEN = b"\x0201.01.24; 1; 13:00:00; +00:00; #*     ;  0.0000N   0.0000E    0m\x03"
+FRAMED = b'{"date":"2024-01-01","time":"00:00:00","sync":true,"summer":false,"offset":"%s","dsp":false,"lsp":false}'
 SECONDS = 10
 
 program = ""
@@ -106,14 +107,16 @@ def test_usage():
              ["listen", "-", "--form", "0"], ["listen", "-", "--form"], ["listen", "-", "--form", "1", "--baud", "fast"],
              ["listen", "-", "--form", "1", "--framing", "9N1"], ["listen", "-", "--form", "1", "--loud"],
              ["export", "--form", "1", "-"], ["export", "--json", "--csv", "--form", "1", "-"], ["export", "--csv", "--form", "1"],
-             ["why"], ["why", "-", "-"], ["write"], ["write", "racl"], ["write", "11"], ["listen", "-", "--form", "11"],
-             ["listen", "-", "--form", "block"], ["export", "--csv", "--form", "8", "-"], ["write", "010"]]
+             ["why"], ["why", "-", "-"], ["write"], ["write", "racl"], ["write", "15"], ["listen", "-", "--form", "11"],
+             ["listen", "-", "--form", "block"], ["export", "--csv", "--form", "8", "-"], ["export", "--csv", "--form", "c37118", "-"],
+             ["write", "010"]]
     for words in wrong:
         status, out, error = run(*words)
         check("usage of %s" % words, status == 2 and out == b"" and "--help" in error, (status, error))
     numbered = ", ".join("%s (%d)" % (name, form) for form, (name, _) in FORMS.items())
-    error = run("listen", "-", "--form", "frame")[2]
-    check("a form that is not listened for", numbered in error and "frame is not listened" in error, error)
+    for name in ("frame", "block", "c37118"):
+        error = run("listen", "-", "--form", name)[2]
+        check("not listened for: " + name, numbered in error and name + " is not listened" in error, error)
     names = [name for name, _ in FORMS.values()]
     for words in (["listen", "-"], ["write"], ["simulate"]):
         error = run(*words)[2]
@@ -430,7 +433,8 @@ def test_why():
     why("wide", (A * 3).decode().encode("utf-16-le"), "UTF-16", "strings of standard heard: 3")
     why("wrong speed", bytes(i * 89 % 251 for i in range(900)), "the speed or the framing")
     why("blocks", BLOCK * 2, "the file holds blocks")
-    why("a frame", run("simulate", "frame", "--count", "1", "--interval", "0")[1], "IEEE1344")
+    for name in ("frame", "c37118"):
+        why("a frame of " + name, run("write", name, given=FRAMED % b"+01:00")[1], "IEEE1344 frame, form 8 or 11, ", "the sign of the offset")
     why("other text", b"hello\r\n" * 20, "of none of these forms")
 
 
@@ -508,12 +512,21 @@ def test_write_back():
 def test_write_other_forms():
     line = run("export", "--json", "--form", "1", "-", given=A)[1]
     check("write a block", run("write", "block", given=line)[:2] == (0, BLOCK[:-1]), "")
-    whole = b'{"date":"2024-01-01","time":"00:00:00","sync":true,"summer":false,"offset":"+00:00","dsp":false,"lsp":false}'
-    status, out, error = run("write", "frame", given=whole)
-    ones = [at for at, element in enumerate(out) if element == 1]
-    check("write a frame", status == 0 and len(out) == 100 and ones == [30, 52, 56, 75], (status, ones, error))
     status, out, error = run("write", "sysplex", given=b'{"date":"2023-12-31","time":"23:59:59","sync":true}')
     check("day of year of a date", out == b"\x01365:23:59:59 \r\n", (status, out, error))
+
+
+def test_write_frames():
+    """The ones of case L, and with an hour of offset, worked out from document 02, W-203: 65 is the hour, 64 the sign, 75 the parity."""
+    zero, without, signed = [30, 52, 56, 75], [30, 52, 56, 65], [30, 52, 56, 64, 65, 75]
+    for names, above, below in ((("frame", "8"), signed, without), (("c37118", "C37118", "11"), without, signed)):
+        for name in names:
+            for offset, wanted in ((b"+00:00", zero), (b"+01:00", above), (b"-01:00", below)):
+                status, out, error = run("write", name, given=FRAMED % offset)
+                ones = [at for at, element in enumerate(out) if element == 1]
+                check("write %s, offset %s" % (name, offset), status == 0 and len(out) == 100 and ones == wanted, (status, ones, error))
+        status, out, error = run("write", names[0], given=FRAMED % b"+00:45")
+        check("write %s in quarters" % names[0], (status, out) == (1, b"") and names[0] + " refused with 9" in error, (status, out, error))
 
 
 def test_write_sat():
@@ -583,7 +596,7 @@ def test_simulate_time():
     began = time.monotonic()
     run("simulate", "racal", "--count", "4", "--interval", "0.1")
     check("interval", time.monotonic() - began >= 0.3, time.monotonic() - began)
-    for name, length in [("frame", 100), ("block", None)]:
+    for name, length in [("frame", 100), ("c37118", 100), ("block", None)]:
         status, out, _ = run("simulate", name, "--count", "1", "--interval", "0")
         check("simulate " + name, status == 0 and len(out) == (length or len(out)) and len(out) >= 100, (status, out))
 

@@ -193,15 +193,16 @@ class Trial:
 
     def test_other_forms(self):
         """Forms that the library has and this program does not take: what is said must help."""
+        others = "8", "9", "11", "frame", "block", "c37118", "C37118"
         with self.place() as place:
-            told = {word: place.run(word, given=b"bytes") for word in ("10", "sat", "SAT", "8", "9", "frame", "block", "0", "11", "radio")}
+            told = {word: place.run(word, given=b"bytes") for word in ("10", "sat", "SAT", *others, "0", "15", "radio")}
             for word, (status, out, error) in told.items():
                 self.same((status, out), (2, b""), f"form {word}")
                 if word in ("10", "sat", "SAT"):
                     for wanted in ("SAT (form 10)", "lindenscoop listen FILE --form sat", "lindenscoop export --csv --form sat FILE", "\"The command\""):
                         self.check(wanted in error, f"form {word}: {wanted} is not said: {error}")
                 else:
-                    wanted = f"form {word} is not listened for" if word in ("8", "9", "frame", "block") else f"there is no form \"{word}\""
+                    wanted = f"form {word} is not listened for" if word in others else f"there is no form \"{word}\""
                     self.check(wanted in error and "or 1 to 7" in error and "sat (10)" in error, f"form {word}: {error}")
             self.same(place.called(), [], "rt was called for a form that is not taken")
         self.check("\n## The command\n" in (ROOT / "README.md").read_text(encoding="utf-8"), "README.md has no section that is named")
@@ -433,7 +434,9 @@ FAULTS = [
     ("grep -v ", "grep "),
     ("10 | [sS][aA][tT]) fail", "10 | sat) fail"),
     ("10 | [sS][aA][tT]) fail", "sat | SAT) fail"),
-    ("8 | frame | 9 | block) fail", "8 | frame | block) fail"),
+    ("8 | frame | 9 | block |", "8 | frame | block |"),
+    ("| 11 | [cC]37118) fail", "| [cC]37118) fail"),
+    ("| 11 | [cC]37118) fail", "| 11 | c37118) fail"),
     ('"lindenscoop listen FILE --form sat, or', '"or'),
     ("\nlindenscoop listen FILE --form sat\n", "\n"),
 ]

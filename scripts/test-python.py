@@ -305,7 +305,7 @@ def test_bad_records_are_refused():
     for fields in bad_records():
         record = ls.Record(**fields)
         same(number_of(ls.write, "block", record), 7, f"{fields}")
-        same(number_of(ls.write, 11, record), 1, f"{fields}, of a form that there is not")
+        same(number_of(ls.write, 15, record), 1, f"{fields}, of a form that there is not")
 
 
 def test_values_of_another_type():
@@ -380,24 +380,24 @@ def test_refused():
 
 
 def test_forms():
-    names = ("standard", "capture", "erlangen", "spa", "racal", "sysplex", "computime", "frame", "block", "sat")
+    names = ("standard", "capture", "erlangen", "spa", "racal", "sysplex", "computime", "frame", "block", "sat", "c37118")
     same([form.name.lower() for form in ls.Form], list(names), "the forms")
     for number, name in enumerate(names, 1):
         string = ls.write("block", ls.Record()) if name == "block" else b""
         for form in (number, name, name.upper(), str(number), ls.Form(number)):
             same(number_of(ls.read, form, string), 0 if name == "block" else 2, f"form {form!r}")
     same(ls.read("racal", b"XGU000229000000\r").date, ls.Date(2000, 2, 29), "racal")
-    for form in (0, 11, 77, -1, 2**32, 2**32 + 5, 2**64 + 5, "", "0", "11", "05", " 5", "010", "radio"):
+    for form in (0, 15, 77, -1, 2**32, 2**32 + 5, 2**64 + 5, "", "0", "15", "05", " 5", "010", "radio"):
         same(number_of(ls.read, form, b"XGU000229000000\r"), 1, f"form {form!r}")
     told = raises(ls.Refused, ls.read, "radio", b"")
-    check("racal (5), " in told and told.endswith("sat (10)"), "an unknown name is not told which names there are")
+    check("racal (5), " in told and told.endswith("sat (10), c37118 (11)"), "an unknown name is not told which names there are")
     for form in (None, 5.0, True, b"racal"):
         check("name or a number" in raises(TypeError, ls.read, form, b""), f"form {form!r}")
 
 
 def test_forms_that_are_not_serial():
     """Refused at the call, not at the first record."""
-    for form in (0, 8, 9, 11, 15, 26, "frame", "block", 2**32 + 5, 2**32 + 10):
+    for form in (0, 8, 9, 11, 15, 26, "frame", "block", "c37118", 2**32 + 5, 2**32 + 10):
         same(number_of(ls.heard, form, b"XGU000229000000\r"), 1, f"heard {form!r}")
         same(number_of(ls.Listener, form), 1, f"Listener {form!r}")
         same(number_of(ls.search, form, b"XGU000229000000\r"), 1, f"search {form!r}")
@@ -426,6 +426,38 @@ def test_sat():
     for name in ("date", "sync", "utc", "summer", "change"):
         same(number_of(ls.write, "sat", dataclasses.replace(record, **{name: None})), 8, f"a SAT string without {name}")
     same([found.place for found in ls.heard("sat", b"." + string + string[:9] + string)], [1, 39], "SAT strings in a stream")
+
+
+def frame(*ones):
+    """The marks, and ones at these elements."""
+    return bytes(2 if at == 0 or at % 10 == 9 else int(at in ones) for at in range(100))
+
+
+def framed(offset):
+    """24-01-01 00:00:00, sync yes, all else no: ones at 30, 52 and 56, without those of the offset."""
+    return ls.Record(date=ls.Date(2024, 1, 1), sync=True, summer=False, offset=offset, dsp=False, lsp=False)
+
+
+def test_frames():
+    """Elements worked out by hand from documents 01 and 02: 65 is an hour, 64 the sign, and by 75 the ones at 1..75 are even in number."""
+    without, signed, zero = frame(30, 52, 56, 65), frame(30, 52, 56, 64, 65, 75), frame(30, 52, 56, 75)
+    for form, other, above, below in (("frame", "c37118", signed, without), ("c37118", "frame", without, signed)):
+        for offset, string in ((60, above), (-60, below), (0, zero)):
+            same(ls.write(form, framed(offset)), string, f"{form}, offset {offset}")
+            same(ls.read(form, string), framed(offset), f"{form}, offset {offset}, read")
+            same(ls.read(other, string), framed(-offset), f"{form}, offset {offset}, read as {other}")
+        same(number_of(ls.read, form, frame(30, 52, 56, 64)), 5, f"{form}: sign 1 on a zero")
+        same(number_of(ls.read, form, frame(30, 52, 56, 64, 65)), 6, f"{form}: a wrong parity")
+        for offset in (45, -45, 345):
+            same(number_of(ls.write, form, framed(offset)), 9, f"{form}: offset {offset}")
+
+
+def test_twin_frames():
+    """For every offset that a frame can say."""
+    for offset in range(-840, 841, 30):
+        one, other = (ls.write(form, framed(offset)) for form in (8, 11))
+        differ = [at for at in range(100) if one[at] != other[at]]
+        same(differ, [64, 75] if offset else [], f"where the frames of offset {offset} differ")
 
 
 def test_search():

@@ -22,6 +22,8 @@ MARKS = {"<SOH>": b"\x01", "<STX>": b"\x02", "<ETX>": b"\x03", "<LF>": b"\n", "<
 # the forms that search and listener take, and by their names those that the program heard takes, 1 to 7
 SERIAL = {1, 2, 3, 4, 5, 6, 7, 10}
 HEARD = "standard capture erlangen spa racal sysplex computime".split()
+# shown by a digit for each byte
+FRAMES = 8, 11
 LEFT_OUT = "[..]"
 
 
@@ -112,9 +114,10 @@ class Trial:
         # the block is shown by what heard prints
         shown = [form for form in table if form != 9]
         self.same([line[:3] for line in lines], [start for form in shown for start in (f"{form:<3}", "   ")], "layouts and strings in turn")
+        records = {}
         for form, layout, string in zip(shown, lines[::2], lines[1::2]):
             data = decoded(string[3:])
-            if form == 8:
+            if form in FRAMES:
                 data = bytes(map(int, string[3:]))
                 fixed = [(at, data[at], "0P".index(letter) * 2) for at, letter in enumerate(layout[3:]) if letter in "0P"]
                 self.check(all(found == expected for _, found, expected in fixed), f"marks and zeros of the frame: {fixed}")
@@ -122,6 +125,9 @@ class Trial:
             self.same(len(decoded(layout[3:])), len(data), f"the length of the layout of form {form}")
             self.same(read_again(form, data), data, f"the string of form {form}, read and written again")
             self.same(set(table[form][4].split(", ")), carried(form, data), f"what form {form} carries")
+            records[form] = ls.read(form, data)
+        self.same([records[form].offset for form in FRAMES], [60, 60], "the frames are in UTC+1")
+        self.same(*(records[form] for form in FRAMES), "the frames are of one record")
         self.same(table[9][4], "every field", "what form 9 carries")
         shortest, longest = map(number, table[9][3].split(" to "))
         flags = dict.fromkeys(("sync", "fix", "summer", "change", "leap", "dsp", "lsp"), True)
@@ -206,7 +212,10 @@ def faults(text):
         if text.count(old) < 1:
             raise ValueError(f"no {old!r} in README.md")
         return text.replace(old, new, 1), what
-    for line in fenced(section(text, "The forms"), "text")[0].splitlines():
+    lines = fenced(section(text, "The forms"), "text")[0].splitlines()
+    frames = [string for layout, string in zip(lines[::2], lines[1::2]) if int(layout[:2]) in FRAMES]
+    yield put(*frames, "the sign of form 8 is that of form 11")
+    for line in lines:
         yield put(line, line[:-1] if line[-1] != ">" else line[: line.rindex("<")], f"the end of {line} is lost")
         if line.startswith("   "):
             yield put(line, line[:10] + "?" + line[11:], f"a byte of {line} is changed")

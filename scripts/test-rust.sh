@@ -30,9 +30,11 @@ fails_with() {
     grep -qF "$said" "$printed" || { echo "test-rust: \"$said\" is not said by: $*" >&2; cat "$printed" >&2; exit 1; }
 }
 example="cargo run --release --quiet --offline -p lindenscoop --example heard_csv --"
-fails_with 'refused with 1' $example frame samples/standard.log
+for name in frame block c37118; do
+    fails_with 'refused with 1' $example $name samples/standard.log
+done
 fails_with 'there is no form "radio"; the forms are standard (1), ' $example radio samples/standard.log
-fails_with 'block (9), sat (10)' $example 11 samples/standard.log
+fails_with 'sat (10), c37118 (11)' $example 15 samples/standard.log
 fails_with "Make it with:  cd $(pwd -P) && rt staticlib lindenscoop" \
     env LINDENSCOOP_LIB_DIR="$empty" CARGO_TARGET_DIR="$empty" cargo build --quiet --offline -p lindenscoop
 echo "rust: errors say what to do"

@@ -34,7 +34,7 @@ _lindenscoop_option() {
 # Write and simulate have the form as their first word; all else that is no option is a file.
 _lindenscoop_rest() {
     if [[ $1 == simulate || ($1 == write && $COMP_CWORD -eq 2) ]]; then
-        _lindenscoop_words 'standard capture erlangen spa racal sysplex computime frame block sat' "$2"
+        _lindenscoop_words 'standard capture erlangen spa racal sysplex computime frame block sat c37118' "$2"
     else
         _lindenscoop_files
     fi

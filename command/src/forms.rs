@@ -72,13 +72,13 @@ mod tests {
             assert_eq!(any(word).unwrap(), Form::SAT);
             assert_eq!(serial(word).unwrap(), Form::SAT);
         }
-        for word in ["8", "9", "frame", "block"] {
+        for word in ["8", "9", "11", "frame", "block", "c37118", "C37118"] {
             assert!(any(word).is_ok());
             assert!(serial(word).unwrap_err().words().ends_with("sat (10)"));
         }
-        for word in ["", "0", "11", "010", "sat ", "satt"] {
+        for word in ["", "0", "15", "010", "011", "sat ", "satt", "C37.118"] {
             let failure = any(word).unwrap_err();
-            assert!(failure.words().ends_with("block (9), sat (10)"), "{word}");
+            assert!(failure.words().ends_with("sat (10), c37118 (11)"), "{word}");
         }
     }
 }

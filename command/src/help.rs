@@ -13,7 +13,8 @@ A field that was not sent is absent, never 0; a damaged string is refused.
 Each has its own --help. lindenscoop --version prints the version.
 
 Forms, by name or number: standard (1), capture (2), erlangen (3), spa (4), racal (5),
-sysplex (6), computime (7), sat (10); write and simulate also take frame (8) and block (9).
+sysplex (6), computime (7), sat (10); write and simulate also take frame (8), block (9) and
+c37118 (11).
 
 Exit status: 0 heard (or written), 1 nothing heard, 2 a wrong call, 3 a read or write failed.
 ";
@@ -82,7 +83,10 @@ Makes the strings of JSON lines as `lindenscoop export --json` prints them, and 
 one behind the other to standard output. Without a file it reads standard input.
 
   FORM   standard, capture, erlangen, spa, racal, sysplex, computime, frame, block, sat,
-         or 1 to 10
+         c37118, or 1 to 11
+
+frame and c37118 are one frame with two rules for its sign: 1 for an offset above zero in
+frame (IEEE 1344), below zero in c37118 (IEEE C37.118). A frame does not tell its rule.
 
 A key that is null or not there is an absent field; time must be there. place and file are
 passed over. A line that is no record, or that the form cannot carry, is refused with its
@@ -109,7 +113,7 @@ second, to test a recorder without a clock. They go to standard output, or:
   --count N       ends after N strings, damaged ones included
   --interval S    seconds between strings, 1 if not given; 0 sends without a pause
   FORM            standard, capture, erlangen, spa, racal, sysplex, computime, frame, block,
-                  sat, or 1 to 10
+                  sat, c37118, or 1 to 11
 
 Ctrl-C ends it; the counts come on standard error. lost= counts strings for which a
 pseudo-terminal that nobody reads had no room.

@@ -56,7 +56,8 @@ fn from_bytes(bytes: &[u8]) -> String {
         .get(..100)
         .is_some_and(|head| read(Form::FRAME, head).is_ok())
     {
-        "the file begins with an IEEE1344 frame, form 8, which is not listened for".to_string()
+        // valid in one form, it is valid in the other
+        "the file begins with an IEEE1344 frame, form 8 or 11, and these are not listened for; a frame does not tell which of the two it is, and they differ in the sign of the offset".to_string()
     } else if has(b"\ntime=") && has(b"\nsync=") {
         "the file holds blocks, as `lindenscoop listen` prints them, and no strings; `listen --record FILE` keeps the bytes".to_string()
     } else if text * 3 < total * 2 {

@@ -7,7 +7,12 @@ from .refusal import Refusal, Refused
 
 
 class Form(enum.IntEnum):
-    """The forms. Search and listener take those that are serial, 1 to 7 and 10."""
+    """The forms. Search and listener take those that are serial, 1 to 7 and 10.
+
+    FRAME and C37118 are one frame under two rules for its sign: 1 for an offset above zero in FRAME (IEEE 1344: the offset that is added to
+    the encoded time to reach UTC), 1 for one below zero in C37118. A frame does not tell its rule: read by the other one it is not refused,
+    and its offset has the other sign. Until C37118 came, FRAME had its rule: frames kept from then are read as C37118.
+    """
 
     STANDARD = 1
     CAPTURE = 2
@@ -19,6 +24,7 @@ class Form(enum.IntEnum):
     FRAME = 8
     BLOCK = 9
     SAT = 10
+    C37118 = 11
 
 
 AnyForm = Union[Form, int, str]

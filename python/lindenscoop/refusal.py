@@ -17,7 +17,7 @@ class Refusal(enum.IntEnum):
     WRONG_LENGTH = 2, "the input is not as long as the form"
     WRONG_BYTE = 3, "a fixed byte, digit, letter, padding, mark, key or spelling is wrong"
     OUT_OF_RANGE = 4, "a number is outside its range, or there is no such date"
-    DISAGREEMENT = 5, "two parts disagree: weekday and date, `L` and second 60, seconds of the day and time, a minus on a zero, utc and summer both yes"
+    DISAGREEMENT = 5, "two parts disagree: weekday and date, `L` and second 60, seconds of the day and time, a minus or a frame's sign 1 on a zero, utc and summer both yes"
     WRONG_CHECKSUM = 6, "the SPA sum or the frame's parity is wrong"
     BAD_RECORD = 7, "the record to be written is bad"
     MISSING_FIELD = 8, "a field that the form carries is absent or of the other kind"

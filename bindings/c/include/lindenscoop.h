@@ -48,7 +48,10 @@
 extern "C" {
 #endif
 
-/* The forms. Reading and writing take all of them; search, listener and marks take the serial ones, 1..7 and 10. */
+/* The forms. Reading and writing take all of them; search, listener and marks take the serial ones, 1..7 and 10.
+   LINDENSCOOP_FRAME and LINDENSCOOP_C37118 are one frame under two rules for its sign: 1 for an offset above zero in the first (IEEE 1344:
+   the offset that is added to the encoded time to reach UTC), 1 for one below zero in the second. A frame does not tell its rule: read by
+   the other one it is not refused, and its offset has the other sign. Until form 11 came, form 8 had its rule: read such frames as 11. */
 enum {
     LINDENSCOOP_STANDARD = 1,
     LINDENSCOOP_CAPTURE = 2,
@@ -57,9 +60,10 @@ enum {
     LINDENSCOOP_RACAL = 5,
     LINDENSCOOP_SYSPLEX = 6,
     LINDENSCOOP_COMPUTIME = 7,
-    LINDENSCOOP_FRAME = 8,
+    LINDENSCOOP_FRAME = 8,            /* the IEEE1344 frame */
     LINDENSCOOP_BLOCK = 9,
-    LINDENSCOOP_SAT = 10
+    LINDENSCOOP_SAT = 10,
+    LINDENSCOOP_C37118 = 11           /* the IEEE1344 frame with the sign of IEEE C37.118 */
 };
 
 /* The answers: none, the refusals (lindenscoop_message says what each means), and a record that a listener hands out. */
@@ -310,7 +314,7 @@ static inline const char *lindenscoop_message(uint32_t answer)
     case LINDENSCOOP_OUT_OF_RANGE:
         return "a number is outside its range, or there is no such date";
     case LINDENSCOOP_DISAGREEMENT:
-        return "two parts disagree: weekday and date, `L` and second 60, seconds of the day and time, a minus on a zero, utc and summer both yes";
+        return "two parts disagree: weekday and date, `L` and second 60, seconds of the day and time, a minus or a frame's sign 1 on a zero, utc and summer both yes";
     case LINDENSCOOP_WRONG_CHECKSUM:
         return "the SPA sum or the frame's parity is wrong";
     case LINDENSCOOP_BAD_RECORD:

@@ -302,6 +302,70 @@ static void check_forms_of_states(void)
     }
 }
 
+/* The frames of 24-01-01 00:00:00, sync yes, all else no: ones at 30, 52 and 56 for the date, 65 for an hour of offset, 64 for the sign, and
+   75 wherever the others are odd in number. */
+enum { FRAME_BYTES = 100 };
+static const uint32_t frames[] = {LINDENSCOOP_FRAME, LINDENSCOOP_C37118};
+
+static void set_frame(uint8_t *frame, bool hour, bool sign)
+{
+    for (int at = 0; at < FRAME_BYTES; at++)
+        frame[at] = at == 0 || at % 10 == 9 ? 2 : 0;
+    frame[30] = frame[52] = frame[56] = 1;
+    frame[65] = hour;
+    frame[64] = sign;
+    frame[75] = hour == sign; /* where these two are alike, the ones so far are odd in number */
+}
+
+static lindenscoop_record framed_record(int32_t offset)
+{
+    lindenscoop_record r;
+    memset(&r, 0, sizeof r);
+    lindenscoop_set_date(&r, 2024, 1, 1);
+    r.sync = lindenscoop_flag(true);
+    r.summer = r.dsp = r.lsp = lindenscoop_flag(false);
+    lindenscoop_set_offset(&r, offset);
+    return r;
+}
+
+/* Sign 1 is an offset above zero in form 8 and below zero in form 11; by the other form a frame has the opposite offset. */
+static void check_frames(void)
+{
+    for (int i = 0; i < 2; i++)
+        for (int32_t offset = -60; offset <= 60; offset += 60) {
+            const lindenscoop_record r = framed_record(offset), opposite = framed_record(-offset);
+            uint8_t frame[FRAME_BYTES], out[FRAME_BYTES];
+            lindenscoop_record back;
+            size_t n = 0;
+            set_frame(frame, offset != 0, i ? offset < 0 : offset > 0);
+            CHECK(lindenscoop_write(frames[i], &r, out, sizeof out, &n) == LINDENSCOOP_OK && n == sizeof out && memcmp(out, frame, sizeof out) == 0);
+            CHECK(lindenscoop_read(frames[i], frame, sizeof frame, &back) == LINDENSCOOP_OK && memcmp(&back, &r, sizeof r) == 0);
+            CHECK(lindenscoop_read(frames[1 - i], frame, sizeof frame, &back) == LINDENSCOOP_OK && memcmp(&back, &opposite, sizeof back) == 0);
+        }
+}
+
+/* What both refuse: sign 1 on a zero, a wrong parity, an offset that is not of half hours, a short buffer; and neither is serial. */
+static void check_frames_refused(void)
+{
+    for (int i = 0; i < 2; i++) {
+        const lindenscoop_record hour = framed_record(60), quarters = framed_record(45);
+        uint8_t frame[FRAME_BYTES], out[FRAME_BYTES];
+        lindenscoop_listener listener;
+        lindenscoop_record r;
+        size_t n = 77;
+        set_frame(frame, false, true);
+        CHECK(lindenscoop_read(frames[i], frame, sizeof frame, &r) == LINDENSCOOP_DISAGREEMENT);
+        frame[75] ^= 1;
+        CHECK(lindenscoop_read(frames[i], frame, sizeof frame, &r) == LINDENSCOOP_WRONG_CHECKSUM);
+        CHECK(lindenscoop_write(frames[i], &quarters, out, sizeof out, &n) == LINDENSCOOP_NOT_EXPRESSIBLE && n == 0);
+        CHECK(lindenscoop_write(frames[i], &hour, out, sizeof out - 1, &n) == LINDENSCOOP_SHORT_BUFFER && n == 0);
+        set_frame(frame, true, true);
+        CHECK(lindenscoop_search(frames[i], frame, sizeof frame, 0, &n, &r) == LINDENSCOOP_UNKNOWN_FORM);
+        CHECK(lindenscoop_start(frames[i], &listener) == LINDENSCOOP_UNKNOWN_FORM);
+        CHECK(lindenscoop_mark(frames[i], frame, sizeof frame, out, sizeof out) == LINDENSCOOP_UNKNOWN_FORM);
+    }
+}
+
 static void check_day(uint32_t year, uint32_t month, uint32_t day, uint32_t expected)
 {
     uint32_t days = 77, number = 77;
@@ -378,6 +442,8 @@ int main(void)
     check_sat();
     check_sat_refused();
     check_forms_of_states();
+    check_frames();
+    check_frames_refused();
     check_days();
     check_every_day();
     printf("fields: %u passed, %u failed\n", passed, failed);

@@ -125,7 +125,7 @@ static void random_record(lindenscoop_record *r)
 
 static uint32_t random_form(void)
 {
-    return sometimes(1 + draw(10), draw(2) ? draw(17) : 0xffffffffu);
+    return sometimes(1 + draw(11), draw(2) ? draw(17) : 0xffffffffu);
 }
 
 /* Those that search, listener and marks take */
@@ -399,7 +399,7 @@ static void call_with_null(void)
     lindenscoop_listener listener;
     size_t n = 77;
     random_record(&r);
-    CHECK(lindenscoop_read(1 + draw(10), NULL, 0, &r) == 2);
+    CHECK(lindenscoop_read(1 + draw(11), NULL, 0, &r) == 2);
     CHECK(lindenscoop_search(serial_form(), NULL, 0, draw(3), &n, &r) == 12 && n == 0);
     CHECK(lindenscoop_write(5, &r, NULL, 0, &n) == 8 && n == 0);
     CHECK(lindenscoop_start(serial_form(), &listener) == 0);

@@ -63,7 +63,7 @@ static void run_all(void)
     run(READ);
     run(DAY_NUMBER);
     run(WRITE);
-    for (form = 1; form <= 10; form++)
+    for (form = 1; form <= 11; form++)
         run(WRITE);
 }
 

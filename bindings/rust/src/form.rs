@@ -20,6 +20,22 @@ use crate::refusal::Refusal;
 /// assert_eq!(Form::try_from(0), Err(Refusal::UnknownForm));
 /// assert_eq!(u32::from(Form::RACAL), 5);
 /// ```
+///
+/// [`Form::FRAME`] and [`Form::C37118`] are one frame under two rules for its sign; IEEE 1344 has the offset that is added to the encoded
+/// time to reach UTC. A frame does not tell its rule: read by the other one it is not refused, and its offset has the other sign. Until
+/// `C37118` came, `FRAME` had its rule: frames kept from then are read as `C37118`.
+///
+/// ```
+/// use lindenscoop::{append, read, Date, Form, Record};
+///
+/// let (date, no) = (Date::of_full_year(2024, 1, 1), Some(false));
+/// let record = Record { date, sync: no, summer: no, offset: Some(60), dsp: no, lsp: no, ..Record::default() };
+/// let mut kept = Vec::new();
+/// append(Form::C37118, &record, &mut kept)?;
+/// assert_eq!(read(Form::C37118, &kept)?.offset, Some(60));
+/// assert_eq!(read(Form::FRAME, &kept)?.offset, Some(-60));
+/// # Ok::<(), lindenscoop::Refusal>(())
+/// ```
 #[derive(Clone, Copy, Debug, PartialEq, Eq, Hash)]
 pub struct Form(pub u32);
 
@@ -59,9 +75,10 @@ forms! {
     RACAL = 5, "racal", 16, "RACAL";
     SYSPLEX = 6, "sysplex", 16, "SYSPLEX-1";
     COMPUTIME = 7, "computime", 24, "Computime";
-    FRAME = 8, "frame", 100, "The IEEE1344 frame, as bytes 0, 1 and 2.";
+    FRAME = 8, "frame", 100, "The IEEE1344 frame, as bytes 0, 1 and 2. Its sign is 1 for an offset above zero.";
     BLOCK = 9, "block", 174, "The block: text with a line for each field.";
     SAT = 10, "sat", 29, "SAT";
+    C37118 = 11, "c37118", 100, "The IEEE1344 frame with the sign of IEEE C37.118, 1 for an offset below zero.";
 }
 
 impl Form {
@@ -70,7 +87,8 @@ impl Form {
     /// ```
     /// use lindenscoop::Form;
     ///
-    /// assert!(Form::RACAL.is_serial() && Form::SAT.is_serial() && !Form::BLOCK.is_serial());
+    /// assert!(Form::RACAL.is_serial() && Form::SAT.is_serial());
+    /// assert!(!Form::FRAME.is_serial() && !Form::BLOCK.is_serial() && !Form::C37118.is_serial());
     /// ```
     pub fn is_serial(self) -> bool {
         Listener::new(self).is_ok()

@@ -1,16 +1,18 @@
 -- What two layouts tell one behind the other: each field is told by the layout that has its slots.
 use Rattle.cond.proofs.Kit.{[], _&&_, _++_, _∷_, _≡_, Bool, false, getD, List, refl, true, ℕ}
 use Rattle.cond.specs.Pick.{pick}
+use Rattle.record.specs.declared.sign.SignRule.{SignRule}
+use Rattle.record.specs.declared.sign.SignRule.the-variants.{OneAbove, OneBelow}
 use Rattle.forms.specs.Carries.{carriesOf}
 use Rattle.forms.specs.Fields.Channel.{decodeChannel}
 use Rattle.forms.specs.Fields.Date.{DateKind, decodeDate, fullDate, noDate, ordinalDate, yearAndDay}
 use Rattle.forms.specs.Fields.Flag.{FlagKind, byQuality, firstOfTwo, decodeFlag, noFlag, ownLetter, secondOfTwo}
 use Rattle.forms.specs.Fields.Fraction.{FractionKind, decodeFraction, noFraction, tenMillionths, thousandths}
-use Rattle.forms.specs.Fields.Offset.{OffsetKind, inHalfHours, inMinutes, isOffset, decodeMinutes, noOffset, decodeOffset}
+use Rattle.forms.specs.Fields.Offset.{OffsetKind, inHalfHours, inMinutes, isOffset, decodeMinutes, noOffset, decodeOffset, offsetConsistent, signRule, signSlot, toldBy, toldSign}
 use Rattle.forms.specs.Fields.Position.{decodeLatitude, decodeLongitude, decodePosition}
 use Rattle.forms.specs.Fields.Sign.{signConsistent}
 use Rattle.forms.specs.Places.{Layout, has, layoutWidth, values}
-use Rattle.forms.specs.Slots.{Slot, Values, change, channel, dsp, fix, halfHour, hour, leap, lsp, minus, minute, month, notice, offsetHours, offsetMinutes, ordinal, quality, second, south, summer, sync, tenMillionth, thousandth, utc, west, year, zone}
+use Rattle.forms.specs.Slots.{Slot, Values, change, channel, dsp, fix, halfHour, hour, leap, lsp, minute, month, notice, offsetHours, offsetMinutes, ordinal, plus, quality, second, south, summer, sync, tenMillionth, thousandth, utc, west, year, zone}
 use Rattle.block_lines.specs.Reading.{changeSlots, dateSlots, decoded, fractionSlots, hasAny, leapSlots, offsetSlots, onto, positionSlots, summerSlots, syncSlots, timeSlots, utcSlots}
 use Rattle.block.proofs.Fields.{field, member, only}
 
@@ -44,7 +46,12 @@ minutes-only : (k : OffsetKind) (v : Values) → decodeMinutes k (only offsetSlo
 unfolding decodeMinutes member
 minutes-only noOffset v = refl
 minutes-only inMinutes v = refl
-minutes-only inHalfHours v = refl
+minutes-only (inHalfHours x) v = refl
+
+sign-only : (x : SignRule) (v : Values) → only offsetSlots 0 v (signSlot x) ≡ v (signSlot x)
+unfolding member
+sign-only OneBelow v = refl
+sign-only OneAbove v = refl
 
 position-only : (t : Bool) (v : Values) → decodePosition t (only positionSlots 0 v) ≡ decodePosition t v
 unfolding decodePosition member
@@ -53,7 +60,7 @@ position-only false v = refl
 
 -- the kind of an offset by the slots that are there
 abbrev offsetKind : (Slot → Bool) → OffsetKind
-offsetKind h = pick (h halfHour) inHalfHours (pick (h offsetHours) inMinutes noOffset)
+offsetKind h = pick (h halfHour) (inHalfHours (pick (h plus) OneAbove OneBelow)) (pick (h offsetHours) inMinutes noOffset)
 
 module _ (ps qs : Layout) (s : List ℕ) (a : (n : ℕ) → hasAny qs (getD groups n []) ≡ true → hasAny ps (getD groups n []) ≡ false) where
   number : (n : ℕ) (f : Slot) → ((h : Slot → Bool) (v : Values) → only (getD groups n []) 0 v f ≡ v f)
@@ -83,12 +90,12 @@ module _ (ps qs : Layout) (s : List ℕ) (a : (n : ℕ) → hasAny qs (getD grou
       let summer-is = flag 7 (λ h. pick (h zone) secondOfTwo (pick (h summer) ownLetter noFlag)) summer (λ v. v zone) (λ h v. refl) in
       let change-is = flag 8 (λ h. pick (h notice) firstOfTwo (pick (h change) ownLetter noFlag)) change (λ v. v notice) (λ h v. refl) in
       let leap-is = flag 9 (λ h. pick (h notice) secondOfTwo (pick (h leap) ownLetter noFlag)) leap (λ v. v notice) (λ h v. refl) in
-      let offset-is = field ps qs s offsetSlots (λ h v. decodeOffset (isOffset (offsetKind h)) (v minus) (decodeMinutes (offsetKind h) v)) (λ h v. simp minutes-only) (a 10) in
+      let offset-is = field ps qs s offsetSlots (λ h v. toldBy (signRule (offsetKind h)) (decodeOffset (isOffset (offsetKind h)) (toldSign (offsetKind h) v) (decodeMinutes (offsetKind h) v))) (λ h v. simp (minutes-only, sign-only)) (a 10) in
       let position-is = field ps qs s positionSlots (λ h v. decodePosition (h south) v) (λ h v. position-only _ v) (a 11) in
       let dsp-is = flag 12 (λ h. pick (h dsp) ownLetter noFlag) dsp (λ v. 0) (λ h v. refl) in
       let lsp-is = flag 13 (λ h. pick (h lsp) ownLetter noFlag) lsp (λ v. 0) (λ h v. refl) in
       let minutes-is = number 10 offsetMinutes (λ h v. refl) in
-      let zone-is = field ps qs s offsetSlots (λ h v. signConsistent (v minus) (decodeMinutes (offsetKind h) v)) (λ h v. simp minutes-only) (a 10) in
+      let zone-is = field ps qs s offsetSlots (λ h v. offsetConsistent (offsetKind h) v) (λ h v. simp (minutes-only, sign-only)) (a 10) in
       let place-is = field ps qs s positionSlots (λ h v. signConsistent (v south) (decodeLatitude v) && signConsistent (v west) (decodeLongitude v)) (λ h v. refl) (a 11) in
       λ i. record {
         known = record {

@@ -8,11 +8,11 @@ use Rattle.spelling.specs.Bytes.{letters, sameBytes}
 use Rattle.spelling.specs.Spelling.{digits, isSpelled, words}
 use Rattle.forms.specs.Block.{Line, variantAt}
 use Rattle.forms.specs.Carries.{carriesOf}
-use Rattle.forms.specs.Fields.Offset.{decodeMinutes}
+use Rattle.forms.specs.Fields.Offset.{offsetConsistent}
 use Rattle.forms.specs.Fields.Position.{decodeLatitude, decodeLongitude}
 use Rattle.forms.specs.Fields.Sign.{signConsistent}
 use Rattle.forms.specs.Places.{Layout, fixed, has, part, layoutWidth, shape, values}
-use Rattle.forms.specs.Slots.{Slot, Values, altitude, change, channel, day, dsp, fix, halfHour, hour, latitudeDegrees, latitudePart, leap, longitudeDegrees, longitudePart, lsp, minus, minute, month, notice, offsetHours, offsetMinutes, ordinal, quality, second, south, summer, sync, tenMillionth, thousandth, utc, west, year, zone}
+use Rattle.forms.specs.Slots.{Slot, Values, altitude, change, channel, day, dsp, fix, halfHour, hour, latitudeDegrees, latitudePart, leap, longitudeDegrees, longitudePart, lsp, minus, minute, month, notice, offsetHours, offsetMinutes, ordinal, plus, quality, second, south, summer, sync, tenMillionth, thousandth, utc, west, year, zone}
 use Rattle.forms.specs.Decode.{decode}
 use Rattle.block_lines.specs.declared.state.Found.{Found}
 use Rattle.block_lines.specs.declared.state.Found.the-variants as found
@@ -24,7 +24,7 @@ decoded ps v =
     record {
       known = decode (carriesOf ps) v;
       minutes = v offsetMinutes;
-      zone = signConsistent (v minus) (decodeMinutes (carriesOf ps .offset) v);
+      zone = offsetConsistent (carriesOf ps .offset) v;
       place = signConsistent (v south) (decodeLatitude v) && signConsistent (v west) (decodeLongitude v);
     }
 
@@ -55,7 +55,7 @@ abbrev pub leapSlots : List Slot
 leapSlots = leap ∷ notice ∷ []
 
 abbrev pub offsetSlots : List Slot
-offsetSlots = minus ∷ offsetHours ∷ offsetMinutes ∷ halfHour ∷ []
+offsetSlots = minus ∷ plus ∷ offsetHours ∷ offsetMinutes ∷ halfHour ∷ []
 
 abbrev pub positionSlots : List Slot
 positionSlots = south ∷ latitudeDegrees ∷ latitudePart ∷ west ∷ longitudeDegrees ∷ longitudePart ∷ altitude ∷ []

@@ -4,6 +4,7 @@ ghost use Rattle.forms.specs.Forms.{WroteAs, allForms, formKindOf, isKnown, rea
 use record::Record;
 use record::answer::Reading;
 use record::answer::Writing;
+use record::sign::SignRule;
 
 // Whether there is a form of this number.
 pub fn is_form(form: u32) -> bool
@@ -12,6 +13,7 @@ pub fn is_form(form: u32) -> bool
     match form {
         8 => true,
         9 => true,
+        11 => true,
         _ => 0 < serial::length_of(form),
     }
 }
@@ -20,8 +22,9 @@ pub fn read(form: u32, input: &[u8]) -> Reading
     ensures { λ r. ⌜ r ≡ readForm form (now (input .entry)) ⌝ }
 {
     match form {
-        8 => frame::read(input),
+        8 => frame::read(SignRule::OneAbove, input),
         9 => block::read(input),
+        11 => frame::read(SignRule::OneBelow, input),
         _ => serial::read(form, input),
     }
 }
@@ -30,8 +33,9 @@ pub fn write(form: u32, r: Record, out: &mut [u8]) -> Writing
     ensures { λ w. ⌜ WroteAs (formKindOf allForms form) r w (now (out .entry)) (now (out .exit)) ⌝ }
 {
     match form {
-        8 => frame::write(r, out),
+        8 => frame::write(SignRule::OneAbove, r, out),
         9 => block::write(r, out),
+        11 => frame::write(SignRule::OneBelow, r, out),
         _ => serial::write(form, r, out),
     }
 }

@@ -1,8 +1,8 @@
 -- Layouts one behind the other: what the parts pass, the whole passes.
-use Rattle.cond.proofs.Kit.{[], _&&_, _++_, _+_, _||_, _∙_, _∷_, _≡_, _≤_, and-assoc, ap, arith, Bool, drop, false, List, not, or-assoc, refl, sym, take, true, zero-add, ℕ}
+use Rattle.cond.proofs.Kit.{[], _&&_, _++_, _+_, _||_, _∙_, _∷_, _≡_, _≤_, and-assoc, ap, append-assoc, arith, Bool, drop, false, List, not, or-assoc, refl, sym, take, true, zero-add, ℕ}
 use Rattle.cond.proofs.Tests.{both, both-hold, either-way, or-right}
 use Rattle.forms.specs.Checksum.{Checksum}
-use Rattle.forms.specs.Places.{Place, Layout, hasWords, fits, fixed, has, isOf, part, layoutWidth, shape, width, hasWord}
+use Rattle.forms.specs.Places.{Place, Layout, bytesOf, hasWords, fits, placed, fixed, has, isOf, part, layoutWidth, shape, width, hasWord}
 use Rattle.forms.specs.Slots.{Slot, Values}
 use Rattle.forms.proofs.Allowed.{allows, allowsLayout}
 use Rattle.forms.proofs.LayoutLimits.{limitOf}
@@ -14,6 +14,11 @@ pub width-append : (a b : Layout) → layoutWidth (a ++ b) ≡ layoutWidth a + l
 unfolding layoutWidth
 width-append [] b = sym (zero-add (layoutWidth b))
 width-append (p ∷ a) b = omega (arith, width-append a b)
+
+pub bytes-append : (a b : Layout) (v : Values) → bytesOf (a ++ b) v ≡ bytesOf a v ++ bytesOf b v
+unfolding bytesOf
+bytes-append [] b v = refl
+bytes-append (p ∷ a) b v = ap (λ (x : List ℕ). placed p v ++ x) (bytes-append a b v) ∙ sym (append-assoc (placed p v) (bytesOf a v) (bytesOf b v))
 
 pub has-append : (a b : Layout) (f : Slot) → has (a ++ b) f ≡ (has a f || has b f)
 unfolding has

@@ -17,4 +17,5 @@ table =
       seven = (refl, refl);
       eight = (refl, refl);
       ten = (refl, refl);
+      eleven = (refl, refl);
     }

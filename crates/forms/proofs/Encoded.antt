@@ -5,13 +5,13 @@ use Rattle.forms.specs.Carries.{Carries, carriesOf}
 use Rattle.forms.specs.Fields.Date.{decodeDate, dateKind, dateSlots, weekdayConsistent}
 use Rattle.forms.specs.Fields.Flag.{qualityInRange}
 use Rattle.forms.specs.Fields.Fraction.{fractionKind, fractionSlots}
-use Rattle.forms.specs.Fields.Offset.{isOffset, decodeMinutes, offsetKind, offsetSlots, offsetConsistent}
+use Rattle.forms.specs.Fields.Offset.{isOffset, decodeMinutes, offsetKind, offsetSlots, offsetConsistent, signRule, toldSign}
 use Rattle.forms.specs.Fields.Position.{positionSlots, positionConsistent}
 use Rattle.forms.specs.Fields.Time.{leapConsistent, secondsConsistent}
 use Rattle.forms.specs.CarriedPart.{carriedPart}
 use Rattle.forms.specs.Required.{hasCarried}
 use Rattle.forms.specs.Places.{Layout, has}
-use Rattle.forms.specs.Slots.{Slot, Values, among, change, channel, day, daySeconds, deletion, dsp, fix, isChecksum, leap, leapSecond, lsp, minus}
+use Rattle.forms.specs.Slots.{Slot, Values, among, change, channel, day, daySeconds, deletion, dsp, fix, isChecksum, leap, leapSecond, lsp}
 use Rattle.forms.specs.Slots.{month, notice, offsetMinutes, quality, south, summer, sync, utc, weekday, year, zone}
 use Rattle.forms.specs.Decode.{decode}
 use Rattle.forms.specs.Encode.{encode}
@@ -114,7 +114,7 @@ module _ (k : Carries) (v : Values) where
       let g = flag-carried (k .summer) (v summer) (v zone) in
       let h = flag-carried (k .change) (v change) (v notice) in
       let i = flag-carried (k .leap) (v leap) (v notice) in
-      let j = offset-carried (isOffset (k .offset)) (v minus) (decodeMinutes (k .offset) v) in
+      let j = offset-carried (signRule (k .offset)) (isOffset (k .offset)) (toldSign (k .offset) v) (decodeMinutes (k .offset) v) in
       let l = position-carried (k .position) v in
       let m = flag-carried (k .dsp) (v dsp) 0 in
       let n = flag-carried (k .lsp) (v lsp) 0 in

@@ -44,7 +44,12 @@ pub mod FirstEdition
 pub mod Demand1
 pub mod Demand2
 pub mod Worded
+pub mod Frames
 pub mod WriterNumbers
 pub mod GroupDigits
 pub mod FrameDate
+pub mod Opposites
+pub mod FrameBytes
+pub mod Differences
+pub mod FrameSigns
 pub mod BcdDigits

@@ -32,8 +32,8 @@ limits =
     ∷ loose 1000 ∷ loose 10000000 ∷ loose 2
     -- sync, quality, fix, zone, utc, summer, notice, change, leap, dsp, lsp
     ∷ exact 2 ∷ loose 16 ∷ exact 2 ∷ exact 3 ∷ exact 2 ∷ exact 2 ∷ wordless 4 3 ∷ exact 2 ∷ exact 2 ∷ exact 2 ∷ exact 2
-    -- minus, offsetHours, offsetMinutes, halfHour
-    ∷ exact 2 ∷ loose 15 ∷ loose 60 ∷ wordless 3 2
+    -- minus, plus, offsetHours, offsetMinutes, halfHour
+    ∷ exact 2 ∷ exact 2 ∷ loose 15 ∷ loose 60 ∷ wordless 3 2
     -- south, latitudeDegrees, latitudePart, west, longitudeDegrees, longitudePart, altitude
     ∷ exact 2 ∷ loose 91 ∷ exact 10000 ∷ exact 2 ∷ loose 181 ∷ exact 10000 ∷ loose 10000
     -- sum

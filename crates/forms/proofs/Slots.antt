@@ -2,7 +2,7 @@
 use Rattle.cond.proofs.Kit.{[], _&&_, _++_, _∙_, _∷_, _≡_, _⊎_, ap, Bool, eq-eqb, eqb-true, false, false≢true, getD, inl, inr, List, refl, subst, suc, sym, true, zero, ℕ, ⊎-elim}
 use Rattle.cond.proofs.Tests.{both, either, or-left, or-right}
 use Rattle.forms.specs.Slots.{Slot, altitude, among, change, channel, day, daySeconds, deletion, dsp, fix, halfHour, hour, isChecksum, latitudeDegrees, latitudePart, leap}
-use Rattle.forms.specs.Slots.{leapSecond, longitudeDegrees, longitudePart, lsp, minus, minute, month, notice, ofChecksum, offsetHours, offsetMinutes, ordinal, quality, same}
+use Rattle.forms.specs.Slots.{leapSecond, longitudeDegrees, longitudePart, lsp, minus, minute, month, notice, ofChecksum, offsetHours, offsetMinutes, ordinal, plus, quality, same}
 use Rattle.forms.specs.Slots.{second, slotNumber, south, checksum, summer, sync, tenMillionth, thousandth, utc, weekday, west, year, zone}
 
 -- the slots by what they tell, in the order of their numbers
@@ -27,7 +27,7 @@ abbrev pub ofFlags : List Slot
 ofFlags = sync ∷ quality ∷ fix ∷ zone ∷ utc ∷ summer ∷ notice ∷ change ∷ leap ∷ dsp ∷ lsp ∷ []
 
 abbrev pub ofOffset : List Slot
-ofOffset = minus ∷ offsetHours ∷ offsetMinutes ∷ halfHour ∷ []
+ofOffset = minus ∷ plus ∷ offsetHours ∷ offsetMinutes ∷ halfHour ∷ []
 
 abbrev pub ofPosition : List Slot
 ofPosition = south ∷ latitudeDegrees ∷ latitudePart ∷ west ∷ longitudeDegrees ∷ longitudePart ∷ altitude ∷ []
@@ -66,6 +66,7 @@ slot-at leap = refl
 slot-at dsp = refl
 slot-at lsp = refl
 slot-at minus = refl
+slot-at plus = refl
 slot-at offsetHours = refl
 slot-at offsetMinutes = refl
 slot-at halfHour = refl

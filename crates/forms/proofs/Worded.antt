@@ -1,5 +1,5 @@
 -- The words of each layout are counted: all have one for every good record, but for the letter that change and leap share in form 1 and the
--- half hour of form 8.
+-- half hour of the frames.
 use Rattle.cond.proofs.Kit.{_%_, _&&_, _*_, _+_, _≡_, arith, Bool, eq-eqb, eqb, eqb-false, eqb-true, false, ltb, ne-eqb, not, refl, sym, true, ℕ}
 use Rattle.cond.specs.Pick.{oneIf, pick}
 use Rattle.cond.proofs.Tests.{both}

@@ -5,6 +5,8 @@ use Rattle.spelling.specs.Bytes.{letters}
 use Rattle.record.specs.Answers.{writeNumber}
 use Rattle.record.specs.Record.{isGood}
 use Rattle.record.specs.declared.Record.{Record}
+use Rattle.record.specs.declared.sign.SignRule.{SignRule}
+use Rattle.record.specs.declared.sign.SignRule.the-variants.{OneAbove, OneBelow}
 use Rattle.record.specs.declared.answer.Writing.the-variants as writing
 use Rattle.record.specs.declared.refusal.Refusal.the-variants as refusal
 use Rattle.forms.specs.Block.{blockOf, firstEdition}
@@ -20,6 +22,7 @@ use Rattle.forms.specs.WriterNumbers.{Passed, WriterNumbers, hasNoWord, 
 use Rattle.forms.proofs.Block.{block-answer}
 use Rattle.forms.proofs.ByNumber.{_also_, by-number}
 use Rattle.forms.proofs.FirstEdition.{first-sound}
+use Rattle.forms.proofs.Frames.{frame-has-words}
 use Rattle.forms.proofs.Worded.{Worded, half, not-not, three, two, zoned}
 
 -- the number of each form's answer
@@ -53,6 +56,10 @@ block-numbered r room k = go (isGood r) refl
     go false e = simp e
     go true e = rw (block-answer firstEdition first-sound r room e) (written-number (leb (blockOf firstEdition r .size) room) (blockOf firstEdition r .size))
 
+-- the half hour alone may have no word
+frame-worded : (x : SignRule) (r : Record) → isExpressible (frame x .layout) (encode r) ≡ not (not (eqb (encodeMinutes (r .offset) % 30) 0))
+frame-worded x r = frame-has-words x r ∙ simp half (sym (not-not (eqb (encodeMinutes (r .offset) % 30) 0)))
+
 form-numbered : (n : ℕ) → Numbered n (formKindOf allForms n)
 unfolding isExpressible has hasWords letters
 form-numbered =
@@ -61,8 +68,8 @@ form-numbered =
     also sized-numbered 3 erlangen (λ r g. simp two) also sized-numbered 4 spa (λ r g. refl) also sized-numbered 5 racal (λ r g. refl)
     also sized-numbered 6 sysplex (λ r g. simp two) also sized-numbered 7 computime (λ r g. refl)
     also sized-numbered 10 sat (λ r g. simp (two, three, zoned r g))
-    also sized-numbered 8 frame (λ r g. let whole : Bool = eqb (encodeMinutes (r .offset) % 30) 0 in simp half (and-true whole ∙ sym (not-not whole)))
-    also block-numbered also tt)
+    also sized-numbered 8 (frame OneAbove) (λ r g. frame-worded OneAbove r) also block-numbered
+    also sized-numbered 11 (frame OneBelow) (λ r g. frame-worded OneBelow r) also tt)
     (λ n r room k. absurd (false≢true k))
 
 unknown-one : (l : FormKind) (r : Record) (room : ℕ) → isKnown l ≡ false → writeNumber (writeAs l r room) ≡ 1

@@ -7,10 +7,11 @@ use lib.Dec.{leb}
 use lib.ListN.{drop, length, take}
 use Rattle.spelling.specs.Bytes.{allAre, bitsNumber}
 use Rattle.record.specs.Answers.{readNumber}
+use Rattle.record.specs.declared.sign.SignRule.{SignRule}
 use Rattle.forms.specs.All.{isOneOf}
 use Rattle.forms.specs.Checksum.{checksumsHold}
 use Rattle.forms.specs.Form.{valuesBy}
-use Rattle.forms.specs.Forms.{readForm}
+use Rattle.forms.specs.Forms.{frameForm, readForm}
 use Rattle.forms.specs.Frame.{frame}
 use Rattle.forms.specs.Places.{shape}
 
@@ -32,11 +33,12 @@ bcdDigits s =
 abbrev pub hasDigitOver9 : List ℕ → Bool
 hasDigitOver9 s = not (allAre (λ d. leb d 9) (bcdDigits s))
 
-pub record BcdDigits : Type 0 where
+-- of both frames
+pub record BcdDigits (x : SignRule) : Type 0 where
   -- "Readers test in the order 1, 2, 3, 6, 4, 5": a frame that none of the tests before refuses is answered 4
   pub four :
-      (s : List ℕ) → hasDigitOver9 s ≡ true → isOneOf (2 ∷ 3 ∷ 6 ∷ []) (readNumber (readForm 8 s)) ≡ false → readNumber (readForm 8 s) ≡ 4
+      (s : List ℕ) → hasDigitOver9 s ≡ true → isOneOf (2 ∷ 3 ∷ 6 ∷ []) (readNumber (readForm (frameForm x) s)) ≡ false → readNumber (readForm (frameForm x) s) ≡ 4
   -- so is each of the right length, shape and parity
   pub shaped-four :
-      (s : List ℕ) → hasDigitOver9 s ≡ true → length s ≡ 100 → shape (frame .layout) 0 s ≡ true
-      → checksumsHold (frame .checksums) s (valuesBy frame s) ≡ true → readNumber (readForm 8 s) ≡ 4
+      (s : List ℕ) → hasDigitOver9 s ≡ true → length s ≡ 100 → shape (frame x .layout) 0 s ≡ true
+      → checksumsHold (frame x .checksums) s (valuesBy (frame x) s) ≡ true → readNumber (readForm (frameForm x) s) ≡ 4

@@ -1,7 +1,7 @@
 -- "Strings on the bench (A to L are the proved set)": tables of calls and their answers.
 use mathlib.Core.List.{List, [], _∷_}
 use Prim.Native.Nat.{ℕ}
-use lib.IntN.{pos}
+use lib.IntN.{ℤ, negsuc, pos}
 use lib.ListN.{replicate, set}
 use Rattle.spelling.specs.Bytes.{text}
 use Rattle.record.specs.Record.{emptyRecord}
@@ -50,8 +50,8 @@ cases =
 abbrev pub recordA : Record
 recordA = standardOf (dateIs.Full 24 1 1) 12 0 0 Yes Yes Yes No No No
 
-abbrev pub withOffset : ℕ → Record
-withOffset n = framedOf (dateIs.Full 24 1 1) 0 0 0 Yes No (offsetIs.Minutes (pos n)) No No
+abbrev pub withOffset : ℤ → Record
+withOffset z = framedOf (dateIs.Full 24 1 1) 0 0 0 Yes No (offsetIs.Minutes z) No No
 
 -- the other lines of the bench: "Buffer of 31 bytes for form 1: 10; of 32: done. Offset 840 accepted, 841 a bad record. Offset 345 in
 -- form 8: 9. A block of 117 or 175 bytes: 2."; and the frame of case L with elements changed
@@ -63,9 +63,9 @@ further =
     ∷ reads "south on a zero" 3 (text "\u{2}01.01.24; 1; 13:00:00; +01:00; #*     ;  0.0000S   8.0625E  431m\u{3}") 5 emptyRecord
     ∷ writes "buffer of 31" 1 recordA 31 10 []
     ∷ writes "buffer of 32" 1 recordA 32 0 (text "\u{2}D:01.01.24;T:1;U:12.00.00;  U \u{3}")
-    ∷ writes "offset 840" 8 (withOffset 840) 100 0 (onesAt (30 ∷ 52 ∷ 56 ∷ 66 ∷ 67 ∷ 68 ∷ []))
-    ∷ writes "offset 841" 9 (withOffset 841) 174 7 []
-    ∷ writes "offset 345" 8 (withOffset 345) 100 9 []
+    ∷ writes "offset 840" 8 (withOffset (pos 840)) 100 0 (onesAt (30 ∷ 52 ∷ 56 ∷ 64 ∷ 66 ∷ 67 ∷ 68 ∷ 75 ∷ []))
+    ∷ writes "offset 841" 9 (withOffset (pos 841)) 174 7 []
+    ∷ writes "offset 345" 8 (withOffset (pos 345)) 100 9 []
     ∷ reads "block of 117" 9 (replicate 117 0) 2 emptyRecord
     ∷ reads "block of 175" 9 (replicate 175 0) 2 emptyRecord
     ∷ reads "form 15" 15 [] 1 emptyRecord
@@ -75,7 +75,7 @@ further =
     ∷ reads "TFOM 7" 8 (onesAt (30 ∷ 52 ∷ 56 ∷ 71 ∷ 72 ∷ 73 ∷ [])) 4 emptyRecord
     ∷ reads "leap deletion" 8 (onesAt (30 ∷ 52 ∷ 56 ∷ 61 ∷ [])) 4 emptyRecord
     ∷ reads "digit 10" 8 (onesAt (2 ∷ 4 ∷ 30 ∷ 52 ∷ 56 ∷ 75 ∷ [])) 4 emptyRecord
-    ∷ reads "minus on a zero" 8 (onesAt (30 ∷ 52 ∷ 56 ∷ 64 ∷ [])) 5 emptyRecord
+    ∷ reads "sign 1 on a zero" 8 (onesAt (30 ∷ 52 ∷ 56 ∷ 64 ∷ [])) 5 emptyRecord
     ∷ reads "seconds of the day" 8 (onesAt (30 ∷ 52 ∷ 56 ∷ 75 ∷ 80 ∷ [])) 5 emptyRecord
     ∷ []
 
@@ -117,6 +117,22 @@ calendarCases =
     (standardOf (dateIs.Full 99 12 31) 0 0 0 Yes Absent Yes No No Absent)
     ∷ []
 
+-- W-203: "sign 1 for an offset above zero, 0 for zero or below"; in form 11 "the sign as 01 had it"; "sign 1 on a zero stays 5, and 9 reads as
+-- for form 8, in both"
+abbrev pub signCases : List Case
+signCases =
+    writes "UTC+1" 8 (withOffset (pos 60)) 100 0 (onesAt (30 ∷ 52 ∷ 56 ∷ 64 ∷ 65 ∷ 75 ∷ []))
+    ∷ writes "UTC+1" 11 (withOffset (pos 60)) 100 0 (onesAt (30 ∷ 52 ∷ 56 ∷ 65 ∷ []))
+    ∷ writes "UTC-1" 8 (withOffset (negsuc 59)) 100 0 (onesAt (30 ∷ 52 ∷ 56 ∷ 65 ∷ []))
+    ∷ writes "UTC-1" 11 (withOffset (negsuc 59)) 100 0 (onesAt (30 ∷ 52 ∷ 56 ∷ 64 ∷ 65 ∷ 75 ∷ []))
+    ∷ reads "kept from before" 11 (onesAt (30 ∷ 52 ∷ 56 ∷ 66 ∷ 67 ∷ 68 ∷ [])) 0 (withOffset (pos 840))
+    ∷ reads "the same in form 8" 8 (onesAt (30 ∷ 52 ∷ 56 ∷ 66 ∷ 67 ∷ 68 ∷ [])) 0 (withOffset (negsuc 839))
+    ∷ writes "L" 11 recordL 100 0 frameL
+    ∷ reads "L" 11 frameL 0 recordL
+    ∷ reads "sign 1 on a zero" 11 (onesAt (30 ∷ 52 ∷ 56 ∷ 64 ∷ [])) 5 emptyRecord
+    ∷ writes "offset 345" 11 (withOffset (pos 345)) 100 9 []
+    ∷ []
+
 -- the tabled claim
 pub record Bench : Type 0 where
   pub cases-hold : Holds cases
@@ -124,3 +140,4 @@ pub record Bench : Type 0 where
   pub further-hold : Holds further
   pub sat-hold : Holds satCases
   pub calendar-hold : Holds calendarCases
+  pub sign-hold : Holds signCases

@@ -4,6 +4,7 @@ use mathlib.Core.List.{List, _∷_, _++_, []}
 use mathlib.Core.Path.{_≡_}
 use Prim.Native.Nat.{ℕ}
 use Prim.Native.String.{String}
+use Rattle.record.specs.declared.sign.SignRule.the-variants.{OneAbove, OneBelow}
 use Rattle.forms.specs.Carries.{Carries}
 use Rattle.forms.specs.Fields.Date.{dateWord}
 use Rattle.forms.specs.Fields.Flag.{isCarried}
@@ -45,5 +46,6 @@ pub record Table : Type 0 where
   pub five : Line racal 16 ("full date" ∷ [])
   pub six : Line sysplex 16 ("day of year" ∷ "sync" ∷ [])
   pub seven : Line computime 24 ("full date" ∷ [])
-  pub eight : Line frame 100 ("full date" ∷ "sync" ∷ "summer" ∷ "offset" ∷ "dsp" ∷ "lsp" ∷ [])
+  pub eight : Line (frame OneAbove) 100 ("full date" ∷ "sync" ∷ "summer" ∷ "offset" ∷ "dsp" ∷ "lsp" ∷ [])
   pub ten : Line sat 29 ("full date" ∷ "sync" ∷ "utc" ∷ "summer" ∷ "change" ∷ [])
+  pub eleven : Line (frame OneBelow) 100 ("full date" ∷ "sync" ∷ "summer" ∷ "offset" ∷ "dsp" ∷ "lsp" ∷ [])

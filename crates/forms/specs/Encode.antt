@@ -8,11 +8,11 @@ use Rattle.record.specs.declared.Record.{Record}
 use Rattle.forms.specs.Fields.Channel.{encodeChannel}
 use Rattle.forms.specs.Fields.Date.{encodeDay, encodeMonth, encodeOrdinal, encodeYear}
 use Rattle.forms.specs.Fields.Fraction.{encodeTenMillionths, encodeThousandths}
-use Rattle.forms.specs.Fields.Offset.{halfHourOf, encodeMinus, encodeMinutes}
+use Rattle.forms.specs.Fields.Offset.{halfHourOf, encodeMinus, encodeMinutes, opposite}
 use Rattle.forms.specs.Fields.Position.{encodeAltitude, encodeLatitude, encodeLongitude, encodeSouth, encodeWest}
 use Rattle.forms.specs.Fields.Time.{secondsOfDay}
 use Rattle.forms.specs.Slots.{Values, altitude, change, channel, day, daySeconds, deletion, dsp, fix, halfHour, hour, latitudeDegrees, latitudePart}
-use Rattle.forms.specs.Slots.{leap, leapSecond, longitudeDegrees, longitudePart, lsp, minus, minute, month, notice, offsetHours, offsetMinutes}
+use Rattle.forms.specs.Slots.{leap, leapSecond, longitudeDegrees, longitudePart, lsp, minus, minute, month, notice, offsetHours, offsetMinutes, plus}
 use Rattle.forms.specs.Slots.{ordinal, quality, second, south, checksum, summer, sync, tenMillionth, thousandth, utc, weekday, west, year, zone}
 
 -- the values of a record; "weekday and the leap letter are not fields: they follow from the date and from second 60"
@@ -40,6 +40,8 @@ encode r notice = oneIf (isYes (r .change)) * 2 + oneIf (isYes (r .leap))
 encode r change = oneIf (isYes (r .change))
 encode r leap = oneIf (isYes (r .leap))
 encode r minus = encodeMinus (r .offset)
+-- W-203 "sign 1 for an offset above zero, 0 for zero or below"
+encode r plus = encodeMinus (opposite (r .offset))
 encode r offsetHours = encodeMinutes (r .offset) / 60
 encode r offsetMinutes = encodeMinutes (r .offset) % 60
 encode r halfHour = halfHourOf (encodeMinutes (r .offset) % 60)

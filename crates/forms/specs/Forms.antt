@@ -11,6 +11,8 @@ use Rattle.record.specs.declared.answer.Reading.{Reading}
 use Rattle.record.specs.declared.answer.Reading.the-variants as reading
 use Rattle.record.specs.declared.answer.Writing.{Writing}
 use Rattle.record.specs.declared.answer.Writing.the-variants as writing
+use Rattle.record.specs.declared.sign.SignRule.{SignRule}
+use Rattle.record.specs.declared.sign.SignRule.the-variants.{OneAbove, OneBelow}
 use Rattle.record.specs.declared.refusal.Refusal.the-variants as refusal
 use Rattle.forms.specs.Block.{Edition, blockOf, firstEdition, readBlock}
 use Rattle.forms.specs.CarriedPart.{carriedPart}
@@ -39,9 +41,15 @@ serialForms =
     numbered 1 (sized standard) ∷ numbered 2 (sized capture) ∷ numbered 3 (sized erlangen) ∷ numbered 4 (sized spa) ∷ numbered 5 (sized racal)
     ∷ numbered 6 (sized sysplex) ∷ numbered 7 (sized computime) ∷ numbered 10 (sized sat) ∷ []
 
--- all forms, which readers and writers take
+-- all forms, which readers and writers take; W-203: form 8 has "sign 1 for an offset above zero", form 11 is the "same frame with the sign as
+-- 01 had it"
 abbrev pub allForms : List Numbered
-allForms = serialForms ++ (numbered 8 (sized frame) ∷ numbered 9 (block firstEdition) ∷ [])
+allForms = serialForms ++ (numbered 8 (sized (frame OneAbove)) ∷ numbered 9 (block firstEdition) ∷ numbered 11 (sized (frame OneBelow)) ∷ [])
+
+-- the number of a frame's form
+abbrev pub frameForm : SignRule → ℕ
+frameForm OneAbove = 8
+frameForm OneBelow = 11
 
 -- the form of a number
 unfoldable pub formKindOf : List Numbered → ℕ → FormKind

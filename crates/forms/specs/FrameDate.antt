@@ -8,11 +8,12 @@ use Rattle.record.specs.Answers.{readNumber}
 use Rattle.record.specs.declared.Date.{Date}
 use Rattle.record.specs.declared.Date.the-variants as dateIs
 use Rattle.record.specs.declared.Record.{Record}
+use Rattle.record.specs.declared.sign.SignRule.{SignRule}
 use Rattle.forms.specs.All.{isOneOf}
 use Rattle.forms.specs.Decode.{decode}
 use Rattle.forms.specs.Demand2.{Accepts}
 use Rattle.forms.specs.Form.{carries, valuesBy}
-use Rattle.forms.specs.Forms.{readForm}
+use Rattle.forms.specs.Forms.{frameForm, readForm}
 use Rattle.forms.specs.Frame.{frame}
 use Rattle.forms.specs.Slots.{Values, ordinal, year}
 
@@ -28,12 +29,13 @@ pub record TheDay (y n : ℕ) (date : Date) : Type 0 where
   pub is : IsDay y n month day
   pub only : (m d : ℕ) → IsDay y n m d → (m ≡ month) × (d ≡ day)
 
-pub record FrameDate : Type 0 where
+-- of both frames
+pub record FrameDate (x : SignRule) : Type 0 where
   -- "finds that date": whatever date the year and the day of year are of
-  pub found : (v : Values) (m d : ℕ) → IsDay (v year) (v ordinal) m d → decode (carries frame) v .date ≡ dateIs.Full (v year) m d
+  pub found : (v : Values) (m d : ℕ) → IsDay (v year) (v ordinal) m d → decode (carries (frame x)) v .date ≡ dateIs.Full (v year) m d
   -- "and no other": the date of an accepted frame
-  pub only : (s : List ℕ) (r : Record) → Accepts (readForm 8 s) r → TheDay (valuesBy frame s year) (valuesBy frame s ordinal) (r .date)
+  pub only : (s : List ℕ) (r : Record) → Accepts (readForm (frameForm x) s) r → TheDay (valuesBy (frame x) s year) (valuesBy (frame x) s ordinal) (r .date)
   -- "or gives 4 where there is none": a frame that none of the tests before refuses
   pub none :
-      (s : List ℕ) → ((m d : ℕ) → IsDay (valuesBy frame s year) (valuesBy frame s ordinal) m d → ⊥)
-      → isOneOf (2 ∷ 3 ∷ 6 ∷ []) (readNumber (readForm 8 s)) ≡ false → readNumber (readForm 8 s) ≡ 4
+      (s : List ℕ) → ((m d : ℕ) → IsDay (valuesBy (frame x) s year) (valuesBy (frame x) s ordinal) m d → ⊥)
+      → isOneOf (2 ∷ 3 ∷ 6 ∷ []) (readNumber (readForm (frameForm x) s)) ≡ false → readNumber (readForm (frameForm x) s) ≡ 4

@@ -21,10 +21,11 @@ knownDate = dateIs.Full 45 7 28
 abbrev pub recordFramed : Record
 recordFramed = framedOf knownDate 13 56 19 No Yes (offsetIs.Minutes (negsuc 209)) Yes No
 
-abbrev pub frameKnown : List ℕ
-frameKnown =
+-- its frame with ones at these places too
+abbrev pub frameKnown : List ℕ → List ℕ
+frameKnown signs =
     onesAt
-    (1 ∷ 4 ∷ 6 ∷ 11 ∷ 12 ∷ 15 ∷ 17 ∷ 20 ∷ 21 ∷ 25 ∷ 30 ∷ 33 ∷ 41 ∷ 50 ∷ 52 ∷ 57 ∷ 62 ∷ 63 ∷ 64 ∷ 65 ∷ 66 ∷ 70 ∷ 71 ∷ 72 ∷ 73 ∷ 74 ∷ 80 ∷ 81 ∷ 91 ∷ 95 ∷ 96 ∷ [])
+    (1 ∷ 4 ∷ 6 ∷ 11 ∷ 12 ∷ 15 ∷ 17 ∷ 20 ∷ 21 ∷ 25 ∷ 30 ∷ 33 ∷ 41 ∷ 50 ∷ 52 ∷ 57 ∷ 62 ∷ 63 ∷ 65 ∷ 66 ∷ 70 ∷ 71 ∷ 72 ∷ 73 ∷ 74 ∷ 80 ∷ 81 ∷ 91 ∷ 95 ∷ 96 ∷ signs)
 
 abbrev pub recordFull : Record
 recordFull =
@@ -54,8 +55,10 @@ known =
     ∷ reads "SYSPLEX-1" 6 (text "\u{1}209:13:56:19 \r\n") 0 (syncedOf (dateIs.DayOfYear 209) 13 56 19 Yes)
     ∷ reads "Computime" 7 (text "T:45:07:28:05:13:56:19\r\n") 0 (syncedOf knownDate 13 56 19 Absent)
     ∷ reads "SAT" 10 (text "\u{2}28.07.45/5/13:56:19CEST#!\r\n\u{3}") 0 (standardOf knownDate 13 56 19 No Absent No Yes Yes Absent)
-    ∷ writes "IEEE1344 frame" 8 recordFramed 100 0 frameKnown
-    ∷ reads "IEEE1344 frame" 8 frameKnown 0 recordFramed
+    ∷ writes "IEEE1344 frame" 8 recordFramed 100 0 (frameKnown (75 ∷ []))
+    ∷ reads "IEEE1344 frame" 8 (frameKnown (75 ∷ [])) 0 recordFramed
+    ∷ writes "frame with the sign as 01 had it" 11 recordFramed 100 0 (frameKnown (64 ∷ []))
+    ∷ reads "frame with the sign as 01 had it" 11 (frameKnown (64 ∷ [])) 0 recordFramed
     ∷ writes "block" 9 recordFull 174 0 blockFull
     ∷ reads "block" 9 blockFull 0 recordFull
     ∷ []

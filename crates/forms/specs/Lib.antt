@@ -25,3 +25,4 @@ pub mod Columns
 pub mod WriterNumbers
 pub mod BcdDigits
 pub mod FrameDate
+pub mod FrameSigns

@@ -4,7 +4,8 @@ use mathlib.Core.List.{List, [], _∷_}
 use Prim.Native.Nat.{ℕ}
 use lib.Dec.{eqb}
 
--- what a place can tell; `zone` is utc and summer in one letter, `notice` change and leap in one, `quality` the frame's TFOM
+-- what a place can tell; `zone` is utc and summer in one letter, `notice` change and leap in one, `quality` the frame's TFOM; `minus` is 1
+-- for an offset below zero, `plus` for one above
 pub data Slot : Type 0 where
   hour minute second : Slot
   weekday leapSecond deletion daySeconds : Slot
@@ -12,7 +13,7 @@ pub data Slot : Type 0 where
   thousandth tenMillionth : Slot
   channel : Slot
   sync quality fix zone utc summer notice change leap dsp lsp : Slot
-  minus offsetHours offsetMinutes halfHour : Slot
+  minus plus offsetHours offsetMinutes halfHour : Slot
   south latitudeDegrees latitudePart west longitudeDegrees longitudePart altitude : Slot
   checksum : Slot
 
@@ -44,17 +45,18 @@ slotNumber leap = 22
 slotNumber dsp = 23
 slotNumber lsp = 24
 slotNumber minus = 25
-slotNumber offsetHours = 26
-slotNumber offsetMinutes = 27
-slotNumber halfHour = 28
-slotNumber south = 29
-slotNumber latitudeDegrees = 30
-slotNumber latitudePart = 31
-slotNumber west = 32
-slotNumber longitudeDegrees = 33
-slotNumber longitudePart = 34
-slotNumber altitude = 35
-slotNumber checksum = 36
+slotNumber plus = 26
+slotNumber offsetHours = 27
+slotNumber offsetMinutes = 28
+slotNumber halfHour = 29
+slotNumber south = 30
+slotNumber latitudeDegrees = 31
+slotNumber latitudePart = 32
+slotNumber west = 33
+slotNumber longitudeDegrees = 34
+slotNumber longitudePart = 35
+slotNumber altitude = 36
+slotNumber checksum = 37
 
 -- two slots are the same
 abbrev pub same : Slot → Slot → Bool

@@ -12,10 +12,10 @@ use Rattle.forms.specs.Block.{blockOf}
 use Rattle.forms.specs.Fields.Offset.{minutesOf}
 use Rattle.forms.specs.Forms.{FormKind, allForms, block, formKindOf, hasCarriedForm, isKnown, sized, unknown, writeForm}
 
--- 9: "form 1 with change and leap both yes; form 8 with an offset not a multiple of 30"
+-- 9: "form 1 with change and leap both yes; form 8 with an offset not a multiple of 30", and form 11 as form 8
 abbrev pub hasNoWord : ℕ → Record → Bool
 hasNoWord form r =
-    (eqb form 1 && (isYes (r .change) && isYes (r .leap))) || (eqb form 8 && not (eqb (natAbs (minutesOf (r .offset)) % 30) 0))
+    (eqb form 1 && (isYes (r .change) && isYes (r .leap))) || ((eqb form 8 || eqb form 11) && not (eqb (natAbs (minutesOf (r .offset)) % 30) 0))
 
 -- the bytes of the output
 abbrev pub outputSize : FormKind → Record → ℕ

@@ -1,16 +1,20 @@
 -- The ten rows are the frame's bytes, element by element, and each is stored behind those before it.
 use Rattle.spelling.specs.Stored.{stored}
-use Rattle.cond.proofs.Kit.{[], _%_, _*_, _++_, _+_, _<_, _∙_, _∷_, _≡_, and-true, ap, append-assoc, append-nil, arith, drop, getD, length, length-append, List, ltb, ltb-true, refl, sets, suc, suc-add, sym, take, true, zero, ℕ}
+use Rattle.cond.proofs.Kit.{[], _%_, _*_, _++_, _+_, _<_, _∙_, _∷_, _≡_, ap, append-assoc, append-nil, arith, drop, getD, length, length-append, List, ltb-true, refl, sets, suc, suc-add, sym, take, true, zero, ℕ}
 use Rattle.spelling.specs.Bytes.{bitsOf, groupsOf, ones}
 use Rattle.spelling.proofs.Stores
 use Rattle.forms.specs.Checksum.{withChecksum}
 use Rattle.forms.specs.Form.{bytesBy, isExpressible}
 use Rattle.forms.specs.Frame.{frame, frameLayout}
-use Rattle.forms.specs.Places.{bytesOf, has, hasWords}
-use Rattle.forms.specs.Slots.{Values, deletion, halfHour, minus}
+use Rattle.forms.specs.Places.{bytesOf}
+use Rattle.forms.specs.Slots.{Slot, Values, checksum, deletion, halfHour, same}
 use Rattle.forms.specs.Encode.{encode}
 use Rattle.record.specs.declared.Record.{Record}
-use Rattle.frame.specs.Layouts.{withMinus}
+use Rattle.record.specs.declared.sign.SignRule.{SignRule}
+use Rattle.cond.proofs.Tests.{either-way}
+use Rattle.forms.proofs.Frames.{frame-has-words}
+use Rattle.forms.proofs.LayoutLimits.{layout-alike}
+use Rattle.forms.proofs.Slots.{same-slot}
 use Rattle.frame.specs.Tens.{joined, tenRows}
 
 -- rows one behind the other
@@ -38,32 +42,27 @@ half-word zero h = refl
 half-word (suc zero) h = refl
 half-word (suc (suc n)) h = absurd (omega arith)
 
-rows-bytes : (v : Values) → v halfHour < 2 → v deletion ≡ 0 → joined (tenRows v) ≡ bytesOf (frameLayout minus) v
+rows-bytes : (x : SignRule) (v : Values) → v halfHour < 2 → v deletion ≡ 0 → joined (tenRows x v) ≡ bytesOf (frameLayout x) v
 unfolding joined tenRows stored bytesOf groupsOf bitsOf
-rows-bytes v h d = simp (half-word (v halfHour) h, d)
+rows-bytes x v h d = simp (half-word (v halfHour) h, d)
 
 -- the parity stands behind the elements that it is taken over
-rows-front : (v : Values) (o : List ℕ) → take 74 (drop 1 (joined (tenRows v) ++ o)) ≡ take 74 (drop 1 (joined (tenRows v)))
+rows-front : (x : SignRule) (v : Values) (o : List ℕ) → take 74 (drop 1 (joined (tenRows x v) ++ o)) ≡ take 74 (drop 1 (joined (tenRows x v)))
 unfolding joined tenRows stored bitsOf
-rows-front v o = refl
+rows-front x v o = refl
 
--- the half hour alone is a word
-pub has-words-of : (r : Record) → isExpressible (frame .layout) (encode r) ≡ ltb (encode r halfHour) 2
-unfolding hasWords has isExpressible
-has-words-of r = and-true (ltb (encode r halfHour) 2)
+-- a record tells no checksum
+no-checksum : (r : Record) (f : Slot) → withChecksum (encode r) 0 f ≡ encode r f
+no-checksum r f = either-way (same f checksum) (λ e. simp e (sym (ap (encode r) (same-slot f checksum e)))) (λ e. simp e)
 
 -- the rows with the parity of the rows without one
-pub rows-frame : (r : Record) (n p : ℕ) (o : List ℕ) → isExpressible (frame .layout) (encode r) ≡ true
-    → p ≡ ones (take 74 (drop 1 (joined (tenRows (withChecksum (withMinus (encode r) n) 0)) ++ o))) % 2
-    → joined (tenRows (withChecksum (withMinus (encode r) n) p)) ≡ bytesBy frame (withMinus (encode r) n)
+pub rows-frame : (x : SignRule) (r : Record) (p : ℕ) (o : List ℕ) → isExpressible (frame x .layout) (encode r) ≡ true
+    → p ≡ ones (take 74 (drop 1 (joined (tenRows x (withChecksum (encode r) 0)) ++ o))) % 2
+    → joined (tenRows x (withChecksum (encode r) p)) ≡ bytesBy (frame x) (encode r)
 unfolding bytesBy bytesOf
-rows-frame r n p o x e =
-    let v : Values = withMinus (encode r) n in
-    let h = ltb-true (encode r halfHour) 2 (sym (has-words-of r) ∙ x) in
-    let m = ap ones (rows-front (withChecksum v 0) o ∙ ap (λ (l : List ℕ). take 74 (drop 1 l)) (rows-bytes (withChecksum v 0) h refl)) in
-    rows-bytes (withChecksum v p) h refl ∙ ap (λ (y : ℕ). bytesOf (frameLayout minus) (withChecksum v y)) (e ∙ ap (λ (y : ℕ). y % 2) m)
-
--- with its own sign
-pub bytes-own : (r : Record) (n : ℕ) → n ≡ encode r minus → bytesBy frame (withMinus (encode r) n) ≡ bytesBy frame (encode r)
-unfolding bytesBy bytesOf
-bytes-own r n e = rw e
+rows-frame x r p o h e =
+    let v : Values = encode r in
+    let l = ltb-true (v halfHour) 2 (sym (frame-has-words x r) ∙ h) in
+    let b = rows-bytes x (withChecksum v 0) l refl ∙ layout-alike (frameLayout x) (withChecksum v 0) v (λ f _. no-checksum r f) in
+    let m = ap ones (rows-front x (withChecksum v 0) o ∙ ap (λ (l : List ℕ). take 74 (drop 1 l)) b) in
+    rows-bytes x (withChecksum v p) l refl ∙ ap (λ (y : ℕ). bytesOf (frameLayout x) (withChecksum v y)) (e ∙ ap (λ (y : ℕ). y % 2) m)

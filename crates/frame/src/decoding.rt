@@ -5,25 +5,28 @@ ghost use Prim.Native.Nat.{_≤_};
 ghost use lib.ListN.{length};
 ghost use Rattle.forms.specs.Fields.Date.{decodeDate, yearAndDay};
 ghost use Rattle.forms.specs.Fields.Flag.{byQuality, decodeFlag};
-ghost use Rattle.forms.specs.Fields.Offset.{inHalfHours, decodeMinutes, decodeOffset};
+ghost use Rattle.record.specs.declared.sign.SignRule.the-variants.{OneBelow};
+ghost use Rattle.forms.specs.Fields.Offset.{inHalfHours, decodeMinutes, decodeOffset, toldBy};
 ghost use Rattle.forms.specs.Form.{carries, valuesBy};
 ghost use Rattle.forms.specs.Frame.{frame};
-ghost use Rattle.forms.specs.Slots.{halfHour, quality};
+ghost use Rattle.forms.specs.Slots.{halfHour, minus, quality};
 ghost use Rattle.forms.specs.Decode.{decode};
-ghost use Rattle.frame.specs.Layouts.{valuesWith};
+ghost use Rattle.frame.specs.Layouts.{told};
 use crate::groups::day_of_year;
 use crate::groups::number_at;
 use crate::groups::pair_number;
+use crate::sign::minus_by;
 use calendar::MonthDay;
 use record::Date;
 use record::Flag;
 use record::Offset;
 use record::Record;
+use record::sign::SignRule;
 
 // The date of a day of the year; where the year has no such day, month and day 0.
 fn date_at(s: &[u8]) -> Date
     requires { ⌜ length (now s) ≡ 100 ⌝ }
-    ensures { λ r. ⌜ r ≡ decodeDate yearAndDay (valuesBy frame (now (s .entry))) ⌝ }
+    ensures { λ r. ⌜ r ≡ decodeDate yearAndDay (told (now (s .entry))) ⌝ }
 {
     let year = pair_number(s, 50, 4, 4, 10, 100);
     let found = calendar::date_of_day(year, day_of_year(s));
@@ -40,7 +43,7 @@ fn date_at(s: &[u8]) -> Date
 // TFOM 0 is sync yes.
 fn sync_at(s: &[u8]) -> Flag
     requires { ⌜ length (now s) ≡ 100 ⌝ }
-    ensures { λ r. ⌜ r ≡ decodeFlag byQuality 0 (valuesBy frame (now (s .entry)) quality) ⌝ }
+    ensures { λ r. ⌜ r ≡ decodeFlag byQuality 0 (told (now (s .entry)) quality) ⌝ }
 {
     let tfom = number_at(s, 71, 4);
     if tfom == 0 { Flag::Yes } else { Flag::No }
@@ -49,7 +52,7 @@ fn sync_at(s: &[u8]) -> Flag
 // No half hour, one, or an element that is neither.
 fn half_hour(s: &[u8]) -> u32
     requires { ⌜ length (now s) ≡ 100 ⌝ }
-    ensures { λ r. ⌜ (r ≡ valuesBy frame (now (s .entry)) halfHour) × (r ≤ 2) ⌝ }
+    ensures { λ r. ⌜ (r ≡ told (now (s .entry)) halfHour) × (r ≤ 2) ⌝ }
 {
     if places::is_at(s, 70, 0) {
         return 0;
@@ -63,22 +66,22 @@ fn half_hour(s: &[u8]) -> u32
 // The minutes of the offset without its sign.
 pub(crate) fn offset_minutes(s: &[u8]) -> u32
     requires { ⌜ length (now s) ≡ 100 ⌝ }
-    ensures { λ r. ⌜ (r ≡ decodeMinutes inHalfHours (valuesBy frame (now (s .entry)))) × (r ≤ 300000) ⌝ }
+    ensures { λ r. ⌜ (r ≡ decodeMinutes (inHalfHours OneBelow) (told (now (s .entry)))) × (r ≤ 300000) ⌝ }
 {
     number_at(s, 65, 4) * 60 + half_hour(s) * 30
 }
 
-// The offset with this sign, 0 for an offset of zero or more.
-fn offset_at(s: &[u8], minus: u32) -> Offset
+fn offset_at(s: &[u8], rule: SignRule) -> Offset
     requires { ⌜ length (now s) ≡ 100 ⌝ }
-    ensures { λ r. ⌜ r ≡ decodeOffset true minus (decodeMinutes inHalfHours (valuesBy frame (now (s .entry)))) ⌝ }
+    ensures { λ r. ⌜ r ≡ toldBy rule (decodeOffset true (told (now (s .entry)) minus) (decodeMinutes (inHalfHours OneBelow) (told (now (s .entry))))) ⌝ }
 {
-    Offset::Minutes(record::sign::signed_number(minus != 0, offset_minutes(s)))
+    let minus = minus_by(rule, number_at(s, 64, 1) != 0);
+    Offset::Minutes(record::sign::signed_number(minus, offset_minutes(s)))
 }
 
-pub(crate) fn decode(s: &[u8], minus: u32) -> Record
+pub(crate) fn decode(s: &[u8], rule: SignRule) -> Record
     requires { ⌜ length (now s) ≡ 100 ⌝ }
-    ensures { λ r. ⌜ r ≡ decode (carries frame) (valuesWith (now (s .entry)) minus) ⌝ }
+    ensures { λ r. ⌜ r ≡ decode (carries (frame rule)) (valuesBy (frame rule) (now (s .entry))) ⌝ }
 {
     Record {
         hour: pair_number(s, 20, 4, 2, 10, 40),
@@ -87,7 +90,7 @@ pub(crate) fn decode(s: &[u8], minus: u32) -> Record
         date: date_at(s),
         sync: sync_at(s),
         summer: places::flag_at(s, 63, 0),
-        offset: offset_at(s, minus),
+        offset: offset_at(s, rule),
         dsp: places::flag_at(s, 62, 0),
         lsp: places::flag_at(s, 60, 0),
         ..Record::empty()

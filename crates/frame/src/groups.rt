@@ -4,10 +4,8 @@ ghost use Prim.Native.Nat.{ℕ, _+_, _*_, _^_, _≤_};
 ghost use lib.ListN.{length, take, drop};
 ghost use Rattle.spelling.specs.Bytes.{bitsNumber, groupsLimit, groupsWidth};
 ghost use Rattle.spelling.specs.Spelling.{bits, grouped, isSpelled, valueOf};
-ghost use Rattle.forms.specs.Form.{valuesBy};
-ghost use Rattle.forms.specs.Frame.{frame};
 ghost use Rattle.forms.specs.Slots.{ordinal};
-ghost use Rattle.frame.specs.Layouts.{pair};
+ghost use Rattle.frame.specs.Layouts.{pair, told};
 
 // So many elements from a place on are 0 or 1.
 pub(crate) fn bits_at(s: &[u8], at: usize, w: usize) -> bool
@@ -60,7 +58,7 @@ pub(crate) fn pair_number(
 // The day of the year, 30-33, 35-38 and 40-41; 400 where a digit is over 9.
 pub(crate) fn day_of_year(s: &[u8]) -> u32
     requires { ⌜ length (now s) ≡ 100 ⌝ }
-    ensures { λ r. ⌜ r ≡ valuesBy frame (now (s .entry)) ordinal ⌝ }
+    ensures { λ r. ⌜ r ≡ told (now (s .entry)) ordinal ⌝ }
 {
     let units = number_at(s, 30, 4);
     let tens = number_at(s, 35, 4);

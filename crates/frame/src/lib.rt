@@ -1,25 +1,26 @@
-// The IEEE1344 frame, form 8: ten groups of ten elements, 0, 1, or 2 for a position mark.
+// The IEEE1344 frame by a sign rule, forms 8 and 11: ten groups of ten elements, 0, 1, or 2 for a position mark.
 ghost use mathlib.Core.Path.{_≡_};
-ghost use Rattle.forms.specs.Fields.Offset.{encodeMinus};
+ghost use Rattle.record.specs.declared.sign.SignRule.the-variants.{OneBelow};
 ghost use Rattle.forms.specs.Form.{Wrote, carries, readBy};
 ghost use Rattle.forms.specs.Frame.{frame};
 ghost use Rattle.forms.specs.Required.{hasCarried};
-use record::Offset;
 use record::Record;
 use record::answer::Reading;
 use record::answer::Writing;
 use record::refusal::Refusal;
+use record::sign::SignRule;
 
 mod decoding;
 mod groups;
 mod parity;
 mod rows;
 mod shape;
+mod sign;
 mod store;
 mod validation;
 
-pub fn read(s: &[u8]) -> Reading
-    ensures { λ r. ⌜ r ≡ readBy frame (now (s .entry)) ⌝ }
+pub fn read(rule: SignRule, s: &[u8]) -> Reading
+    ensures { λ r. ⌜ r ≡ readBy (frame rule) (now (s .entry)) ⌝ }
 {
     if s.len() != 100 {
         return Reading::Refused(Refusal::WrongLength);
@@ -30,12 +31,11 @@ pub fn read(s: &[u8]) -> Reading
     if !parity::parity_holds(s) {
         return Reading::Refused(Refusal::WrongChecksum);
     }
-    // Sign 0 means an offset of zero or more.
-    validation::validate(s, groups::number_at(s, 64, 1))
+    validation::validate(s, rule)
 }
 
 fn has_carried(r: Record) -> bool
-    ensures { λ b. ⌜ b ≡ hasCarried (carries frame) r ⌝ }
+    ensures { λ b. ⌜ b ≡ hasCarried (carries (frame OneBelow)) r ⌝ }
 {
     let date = r.date;
     let sync = r.sync;
@@ -51,15 +51,8 @@ fn has_carried(r: Record) -> bool
         & fields::has_flag(lsp)
 }
 
-// Sign 0 means an offset of zero or more.
-fn sign_of(offset: Offset) -> u32
-    ensures { λ r. ⌜ r ≡ encodeMinus offset ⌝ }
-{
-    if fields::is_minus(offset) { 1 } else { 0 }
-}
-
-pub fn write(r: Record, out: &mut [u8]) -> Writing
-    ensures { λ w. ⌜ Wrote frame r w (now (out .entry)) (now (out .exit)) ⌝ }
+pub fn write(rule: SignRule, r: Record, out: &mut [u8]) -> Writing
+    ensures { λ w. ⌜ Wrote (frame rule) r w (now (out .entry)) (now (out .exit)) ⌝ }
 {
     let offset = r.offset;
     // An offset between two half hours has no element.
@@ -67,7 +60,7 @@ pub fn write(r: Record, out: &mut [u8]) -> Writing
     let answer = places::admitted(r.is_good(), has_carried(r), expressible, 100, out.len());
     match answer {
         Writing::Written(n) => {
-            store::store(r, sign_of(offset), out);
+            store::store(r, rule, out);
             Writing::Written(n)
         }
         Writing::Refused(x) => Writing::Refused(x),

@@ -4,8 +4,9 @@ ghost use Prim.Native.Nat.{_%_};
 ghost use lib.ListN.{length, take, drop};
 ghost use Rattle.spelling.specs.Bytes.{ones};
 ghost use Rattle.forms.specs.Checksum.{checksumsHold};
-ghost use Rattle.forms.specs.Form.{valuesBy};
+ghost use Rattle.record.specs.declared.sign.SignRule.the-variants.{OneBelow};
 ghost use Rattle.forms.specs.Frame.{frame};
+ghost use Rattle.frame.specs.Layouts.{told};
 use crate::groups::number_at;
 
 // The element that the elements before it ask for.
@@ -18,7 +19,7 @@ pub(crate) fn parity_of(s: &[u8]) -> u32
 
 pub(crate) fn parity_holds(s: &[u8]) -> bool
     requires { ⌜ length (now s) ≡ 100 ⌝ }
-    ensures { λ r. ⌜ r ≡ checksumsHold (frame .checksums) (now (s .entry)) (valuesBy frame (now (s .entry))) ⌝ }
+    ensures { λ r. ⌜ r ≡ checksumsHold (frame OneBelow .checksums) (now (s .entry)) (told (now (s .entry))) ⌝ }
 {
     number_at(s, 75, 1) == parity_of(s)
 }

@@ -1,9 +1,9 @@
 // What stands at each place of a frame.
 ghost use mathlib.Core.Path.{_≡_};
 ghost use lib.ListN.{length};
+ghost use Rattle.record.specs.declared.sign.SignRule.the-variants.{OneBelow};
 ghost use Rattle.forms.specs.Frame.{frameLayout};
 ghost use Rattle.forms.specs.Places.{shape};
-ghost use Rattle.forms.specs.Slots.{minus};
 ghost use Rattle.frame.specs.Layouts.{dateLayout, timeLayout, zoneLayout};
 use crate::groups::bits_at;
 use crate::groups::pair_at;
@@ -11,7 +11,7 @@ use crate::groups::pair_at;
 // 0 to 29: seconds, minutes and hours.
 fn has_time(s: &[u8]) -> bool
     requires { ⌜ length (now s) ≡ 100 ⌝ }
-    ensures { λ r. ⌜ r ≡ shape (timeLayout minus) 0 (now (s .entry)) ⌝ }
+    ensures { λ r. ⌜ r ≡ shape timeLayout 0 (now (s .entry)) ⌝ }
 {
     places::is_at(s, 0, 2)
         & pair_at(s, 1, 4, 0, 3)
@@ -27,7 +27,7 @@ fn has_time(s: &[u8]) -> bool
 // 30 to 59: day of year and year.
 fn has_date(s: &[u8]) -> bool
     requires { ⌜ length (now s) ≡ 100 ⌝ }
-    ensures { λ r. ⌜ r ≡ shape (dateLayout minus) 30 (now (s .entry)) ⌝ }
+    ensures { λ r. ⌜ r ≡ shape dateLayout 30 (now (s .entry)) ⌝ }
 {
     pair_at(s, 30, 4, 0, 4)
         & places::is_at(s, 39, 2)
@@ -41,7 +41,7 @@ fn has_date(s: &[u8]) -> bool
 // 60 to 79: lsp, the deleted second, dsp, summer time, the offset's sign, hours and half hour, TFOM and parity.
 fn has_zone(s: &[u8]) -> bool
     requires { ⌜ length (now s) ≡ 100 ⌝ }
-    ensures { λ r. ⌜ r ≡ shape (zoneLayout minus) 60 (now (s .entry)) ⌝ }
+    ensures { λ r. ⌜ r ≡ shape zoneLayout 60 (now (s .entry)) ⌝ }
 {
     bits_at(s, 60, 1)
         & bits_at(s, 61, 1)
@@ -60,7 +60,7 @@ fn has_zone(s: &[u8]) -> bool
 // The pieces, and the seconds of the day.
 pub(crate) fn has_shape(s: &[u8]) -> bool
     requires { ⌜ length (now s) ≡ 100 ⌝ }
-    ensures { λ r. ⌜ r ≡ shape (frameLayout minus) 0 (now (s .entry)) ⌝ }
+    ensures { λ r. ⌜ r ≡ shape (frameLayout OneBelow) 0 (now (s .entry)) ⌝ }
 {
     has_time(s)
         & has_date(s)

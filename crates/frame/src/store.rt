@@ -8,11 +8,11 @@ ghost use Rattle.forms.specs.Form.{bytesBy};
 ghost use Rattle.forms.specs.Frame.{frame};
 ghost use Rattle.forms.specs.Encode.{encode};
 ghost use Rattle.places.specs.Admitted.{Storable};
-ghost use Rattle.frame.specs.Layouts.{withMinus};
 ghost use Rattle.frame.specs.Tens.{joined};
 use crate::parity::parity_of;
 use crate::rows::rows_of;
 use record::Record;
+use record::sign::SignRule;
 
 fn put_row(out: &mut [u8], at: usize, row: [u8; 10])
     requires { ⌜ at + 10 ≤ length (now out) ⌝ }
@@ -33,13 +33,12 @@ fn put_rows(rows: [[u8; 10]; 10], out: &mut [u8])
     }
 }
 
-// Stores the frame of a record with this sign, 0 for an offset of zero or more. The parity is taken over the
-// elements that tell none.
-pub(crate) fn store(r: Record, minus: u32, out: &mut [u8])
-    requires { ⌜ Storable frame r (length (now out)) ⌝ }
-    ensures { λ _. ⌜ now (out .exit) ≡ bytesBy frame (withMinus (encode r) minus) ++ drop 100 (now (out .entry)) ⌝ }
+// Stores the frame of a record. The parity is taken over the elements that tell none.
+pub(crate) fn store(r: Record, rule: SignRule, out: &mut [u8])
+    requires { ⌜ Storable (frame rule) r (length (now out)) ⌝ }
+    ensures { λ _. ⌜ now (out .exit) ≡ bytesBy (frame rule) (encode r) ++ drop 100 (now (out .entry)) ⌝ }
 {
     let mut elements = [0; 100];
-    put_rows(rows_of(r, minus, 0), &mut elements);
-    put_rows(rows_of(r, minus, parity_of(&elements)), out);
+    put_rows(rows_of(r, rule, 0), &mut elements);
+    put_rows(rows_of(r, rule, parity_of(&elements)), out);
 }

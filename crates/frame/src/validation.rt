@@ -3,21 +3,23 @@ ghost use mathlib.Core.Path.{_≡_};
 ghost use mathlib.Core.Bool.{true};
 ghost use Prim.Native.Nat.{_≤_};
 ghost use lib.ListN.{length};
+ghost use Rattle.record.specs.declared.sign.SignRule.the-variants.{OneBelow};
 ghost use Rattle.forms.specs.Fields.Time.{secondsConsistent, secondsOfDay};
 ghost use Rattle.forms.specs.Form.{carries, consistent, numbersInRange, validated, valuesBy};
 ghost use Rattle.forms.specs.Frame.{frame};
-ghost use Rattle.frame.specs.Layouts.{valuesWith};
+ghost use Rattle.frame.specs.Layouts.{told};
 use crate::decoding::decode;
 use crate::decoding::offset_minutes;
 use crate::groups::number_at;
 use crate::groups::pair_number;
 use record::answer::Reading;
 use record::refusal::Refusal;
+use record::sign::SignRule;
 
 // TFOM is 0 or 15, and no second is deleted.
 fn numbers_in_range(s: &[u8]) -> bool
     requires { ⌜ length (now s) ≡ 100 ⌝ }
-    ensures { λ r. ⌜ r ≡ numbersInRange (valuesBy frame (now (s .entry))) ⌝ }
+    ensures { λ r. ⌜ r ≡ numbersInRange (told (now (s .entry))) ⌝ }
 {
     let tfom = number_at(s, 71, 4);
     ((tfom == 0) | (tfom == 15)) & (number_at(s, 61, 1) == 0)
@@ -34,7 +36,7 @@ pub(crate) fn seconds_of_day(hour: u32, minute: u32, second: u32) -> u32
 // The seconds of the day, 80-88 and 90-97, agree with the time.
 fn seconds_agree(s: &[u8]) -> bool
     requires { ⌜ length (now s) ≡ 100 ⌝ }
-    ensures { λ b. ⌜ b ≡ secondsConsistent true (valuesBy frame (now (s .entry))) ⌝ }
+    ensures { λ b. ⌜ b ≡ secondsConsistent true (told (now (s .entry))) ⌝ }
 {
     let time = seconds_of_day(
         pair_number(s, 20, 4, 2, 10, 40),
@@ -44,24 +46,24 @@ fn seconds_agree(s: &[u8]) -> bool
     pair_number(s, 80, 9, 8, 512, 131072) == time
 }
 
-// What is told twice agrees, and a zero offset has no minus.
-fn parts_agree(s: &[u8], minus: u32) -> bool
+// What is told twice agrees, and a zero offset has no sign of 1.
+fn parts_agree(s: &[u8]) -> bool
     requires { ⌜ length (now s) ≡ 100 ⌝ }
-    ensures { λ b. ⌜ b ≡ consistent (carries frame) (valuesWith (now (s .entry)) minus) ⌝ }
+    ensures { λ b. ⌜ b ≡ consistent (carries (frame OneBelow)) (told (now (s .entry))) ⌝ }
 {
-    seconds_agree(s) & !((minus != 0) & (offset_minutes(s) == 0))
+    seconds_agree(s) & !((number_at(s, 64, 1) != 0) & (offset_minutes(s) == 0))
 }
 
-// The answer for elements of the right shape and parity; `minus` is 0 where the offset is zero or more.
-pub(crate) fn validate(s: &[u8], minus: u32) -> Reading
+// The answer for elements of the right shape and parity.
+pub(crate) fn validate(s: &[u8], rule: SignRule) -> Reading
     requires { ⌜ length (now s) ≡ 100 ⌝ }
-    ensures { λ r. ⌜ r ≡ validated (carries frame) (valuesWith (now (s .entry)) minus) ⌝ }
+    ensures { λ r. ⌜ r ≡ validated (carries (frame rule)) (valuesBy (frame rule) (now (s .entry))) ⌝ }
 {
-    let r = decode(s, minus);
+    let r = decode(s, rule);
     if !(r.in_range() & numbers_in_range(s)) {
         return Reading::Refused(Refusal::OutOfRange);
     }
-    if !parts_agree(s, minus) {
+    if !parts_agree(s) {
         return Reading::Refused(Refusal::Disagreement);
     }
     Reading::Read(r)

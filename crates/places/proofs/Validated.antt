@@ -7,6 +7,8 @@ use Rattle.calendar.specs.Calendar.{isDate, weekdayOf}
 use Rattle.record.specs.declared.Date.the-variants as dateIs
 use Rattle.record.specs.declared.Flag.the-variants as flagIs
 use Rattle.record.specs.declared.Record.{Record}
+use Rattle.record.specs.declared.sign.SignRule.{SignRule}
+use Rattle.record.specs.declared.sign.SignRule.the-variants.{OneAbove, OneBelow}
 use Rattle.record.specs.declared.answer.Reading.the-variants as reading
 use Rattle.record.specs.declared.refusal.Refusal.the-variants as refusal
 use Rattle.record.specs.Record.{channelInRange, dateTimeInRange, fractionInRange, inRange, isYes, offsetInRange, positionInRange, restInRange, zoneAgrees}
@@ -14,13 +16,13 @@ use Rattle.forms.specs.Carries.{carriesOf}
 use Rattle.forms.specs.Checksum.{checksumsHold}
 use Rattle.forms.specs.Fields.Date.{decodeDate, fullDate, hasDate, weekdayInRange, weekdayConsistent}
 use Rattle.forms.specs.Fields.Fraction.{noFraction}
-use Rattle.forms.specs.Fields.Offset.{noOffset}
+use Rattle.forms.specs.Fields.Offset.{noOffset, signRule, signSlot}
 use Rattle.forms.specs.Fields.Flag.{decodeFlag}
 use Rattle.forms.specs.Fields.Sign.{signConsistent}
 use Rattle.forms.specs.Fields.Time.{leapConsistent, secondsConsistent}
 use Rattle.forms.specs.Form.{Form, carries, validated, numbersInRange, ranges, readBy, signsConsistent, consistent, valuesBy}
 use Rattle.forms.specs.Places.{Layout, has, isOf, shape, values, width}
-use Rattle.forms.specs.Slots.{Slot, Values, day, daySeconds, deletion, leapSecond, minus, month, offsetMinutes, quality, same, south, utc, weekday, west, year, zone}
+use Rattle.forms.specs.Slots.{Slot, Values, day, daySeconds, deletion, leapSecond, minus, month, offsetMinutes, plus, quality, same, south, utc, weekday, west, year, zone}
 use Rattle.forms.specs.Decode.{decode, decodeChannel, decodeFraction, decodeOffset, decodePosition}
 use Rattle.forms.proofs.Accepted.{read-validated}
 use Rattle.forms.proofs.Slots.{every, every-slot, slots}
@@ -38,7 +40,7 @@ nowhere (p ∷ ps) k s f h =
 
 -- what a layout can tell beside its record and the weekday, and utc by a letter of its own
 abbrev beside : List Slot
-beside = leapSecond ∷ daySeconds ∷ minus ∷ south ∷ west ∷ utc ∷ offsetMinutes ∷ quality ∷ deletion ∷ []
+beside = leapSecond ∷ daySeconds ∷ minus ∷ plus ∷ south ∷ west ∷ utc ∷ offsetMinutes ∷ quality ∷ deletion ∷ []
 
 abbrev among : List Slot → Slot → Bool
 among [] f = false
@@ -98,9 +100,13 @@ module _ (d : Form) (s : List ℕ) where
     unfolding numbersInRange
     numbers-lean = simp (none offsetMinutes refl, none quality refl, none deletion refl)
 
+    no-sign : (x : SignRule) → v (signSlot x) ≡ 0
+    no-sign OneBelow = none minus refl
+    no-sign OneAbove = none plus refl
+
     signs-lean : signsConsistent (carries d .offset) v ≡ true
     unfolding signsConsistent signConsistent
-    signs-lean = simp (none minus refl, none south refl, none west refl)
+    signs-lean = simp (no-sign (signRule (carries d .offset)), none south refl, none west refl)
 
     rest-lean : restConsistent ≡ true
     unfolding carriesOf leapConsistent secondsConsistent

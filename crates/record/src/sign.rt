@@ -3,6 +3,14 @@ ghost use mathlib.Core.Path.{_≡_};
 ghost use lib.IntN.{natAbs};
 ghost use Rattle.record.specs.Sign.{isNegative, signedNumber};
 
+// Which numbers are told with a sign of 1.
+pub enum SignRule {
+    // those below zero
+    OneBelow,
+    // those above zero: the number told is the opposite
+    OneAbove,
+}
+
 pub fn is_negative(z: i32) -> bool
     ensures { λ r. ⌜ r ≡ isNegative z ⌝ }
 {

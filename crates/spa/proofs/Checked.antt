@@ -1,15 +1,16 @@
 -- The sum taken over the bytes that the buffer holds in front of it is the string's own.
-use Rattle.cond.proofs.Kit.{[], _++_, _∙_, _∷_, _≡_, _≤_, ap, append-assoc, arith, drop, length, List, refl, sym, take, take-at, true, ℕ}
+use Rattle.cond.proofs.Kit.{[], _++_, _∙_, _∷_, _≡_, _≤_, ap, arith, drop, length, List, refl, sym, take, take-at, true, ℕ}
 use Rattle.cond.proofs.Tests.{both}
 use Rattle.record.specs.declared.Record.{Record}
 use Rattle.spelling.specs.Bytes.{xorFrom}
 use Rattle.forms.specs.Checksum.{checksumOf}
 use Rattle.forms.specs.Form.{bytesBy}
 use Rattle.forms.specs.Forms.{formKindOf}
-use Rattle.forms.specs.Places.{Layout, bytesOf, placed, layoutWidth}
+use Rattle.forms.specs.Places.{Layout, bytesOf, layoutWidth}
 use Rattle.forms.specs.Serial.{spa, spaLayout, spaChecksum}
 use Rattle.forms.specs.Slots.{Values}
 use Rattle.forms.specs.Encode.{encode}
+use Rattle.forms.proofs.Append.{bytes-append}
 use Rattle.forms.proofs.Instances.{serial-sound}
 use Rattle.forms.proofs.Layouts.{bytes-length, roomy, roomyLayout, soundLayout}
 use Rattle.forms.proofs.Sound.{isSoundForm, sound-form}
@@ -18,12 +19,6 @@ use Rattle.places.specs.Admitted.{Storable}
 use Rattle.places.specs.Stores.{stores}
 use Rattle.places.proofs.Stored.{stores-form, stores-laid}
 use Rattle.spa.specs.Stored.{endStored}
-
--- the bytes of a layout in two pieces
-bytes-append : (ps qs : Layout) (v : Values) → bytesOf (ps ++ qs) v ≡ bytesOf ps v ++ bytesOf qs v
-unfolding bytesOf
-bytes-append [] qs v = refl
-bytes-append (p ∷ ps) qs v = ap (λ (x : List ℕ). placed p v ++ x) (bytes-append ps qs v) ∙ sym (append-assoc (placed p v) (bytesOf ps v) (bytesOf qs v))
 
 -- a layout's first piece has room where the layout has
 roomy-front : (ps qs : Layout) (v : Values) → roomyLayout (ps ++ qs) v ≡ true → roomyLayout ps v ≡ true

@@ -1,6 +1,6 @@
-//! Compares the library with the independent reference program on seeded requests and over the whole calendar, and with the vectors.
+//! Compares the library with the independent reference program on seeded requests, over the whole calendar and every offset of the frames, and with the vectors.
 //!
-//!     differential SEED COUNT VECTORS  compares COUNT requests, every date and every line of VECTORS
+//!     differential SEED COUNT VECTORS  compares COUNT requests, every date, every offset and every line of VECTORS
 //!     differential VECTORS             compares the lines alone
 //!
 //! VECTORS is a file of lines, or a folder whose `.txt` files have them; vectors/README.md describes a line. A mismatch is printed and fails. Before that it plants a fault on either side, and fails if that is not noticed.
@@ -11,8 +11,8 @@ use std::error::Error;
 use std::path::Path;
 use std::process::ExitCode;
 
-use reference::every_date;
 use reference::generate::Requests;
+use reference::{every_date, every_offset};
 
 mod answers;
 mod convert;
@@ -69,10 +69,10 @@ fn compare(seed: u64, count: usize) -> (usize, usize) {
     (asked, mismatches)
 }
 
-/// Compares every date and every day of year; whether there are any and all agree. The library can be asked each of them.
-fn calendar_agrees() -> bool {
+/// Compares a whole list of requests; whether there are any and all agree. The library can be asked each of them.
+fn list_agrees(name: &str, requests: impl Iterator<Item = String>) -> bool {
     let (mut compared, mut differ) = (0, 0);
-    for request in every_date::requests() {
+    for request in requests {
         let library = answers::answer(&request).unwrap_or("not asked".into());
         let reference = reference::protocol::answer(&request);
         compared += 1;
@@ -83,7 +83,7 @@ fn calendar_agrees() -> bool {
             }
         }
     }
-    println!("calendar: {compared} requests compared, {differ} differ");
+    println!("{name}: {compared} requests compared, {differ} differ");
     compared > 0 && differ == 0
 }
 
@@ -106,8 +106,9 @@ fn main() -> Result<ExitCode, Box<dyn Error>> {
                 return Err("a planted fault was not noticed".into());
             }
             let (asked, mismatches) = compare(seed, count.parse()?);
-            let calendar = calendar_agrees();
-            vectors_agree(path)? && calendar && asked > 0 && mismatches == 0
+            let calendar = list_agrees("calendar", every_date::requests());
+            let offsets = list_agrees("offsets", every_offset::requests());
+            vectors_agree(path)? && calendar && offsets && asked > 0 && mismatches == 0
         }
         _ => return Err("usage: differential [SEED COUNT] VECTORS".into()),
     };

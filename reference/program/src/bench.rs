@@ -1,5 +1,6 @@
 //! Tests: section "Strings on the bench" of document 01.
 
+use crate::forms::FRAME_FORMS;
 use crate::protocol::parse_fields;
 use crate::{read, write, Date, Fraction, Position, Record};
 
@@ -8,7 +9,7 @@ fn full(year: u32, month: u32, day: u32) -> Option<Date> {
 }
 
 /// Case L and the frame tests: 24-01-01 00:00:00, sync yes, offset 0, all else no.
-fn frame_record() -> Record {
+pub(crate) fn frame_record() -> Record {
     Record {
         date: full(24, 1, 1),
         sync: Some(true),
@@ -20,7 +21,7 @@ fn frame_record() -> Record {
     }
 }
 
-fn frame_with_ones(ones: &[usize]) -> Vec<u8> {
+pub(crate) fn frame_with_ones(ones: &[usize]) -> Vec<u8> {
     let mut elements = vec![0; 100];
     elements[0] = 2;
     for tens in 0..10 {
@@ -128,11 +129,14 @@ fn k() {
 
 #[test]
 fn l() {
+    // Its offset is zero, so that the frame is the same under both numbers (document 02, W-203).
     let elements = frame_with_ones(&[30, 52, 56, 75]);
-    let mut buffer = [9; 100];
-    assert_eq!(write(8, &frame_record(), &mut buffer), Ok(100));
-    assert_eq!(&buffer[..], elements);
-    assert_eq!(read(8, &elements), Ok(frame_record()));
+    for form in FRAME_FORMS {
+        let mut buffer = [9; 100];
+        assert_eq!(write(form, &frame_record(), &mut buffer), Ok(100));
+        assert_eq!(&buffer[..], elements);
+        assert_eq!(read(form, &elements), Ok(frame_record()));
+    }
 }
 
 #[test]
@@ -167,12 +171,13 @@ fn the_other_lines() {
     let mut buffer = [0; 174];
     record.offset = Some(345);
     assert_eq!(write(8, &record, &mut buffer), Err(9));
-    record.offset = Some(840);
-    assert!(write(8, &record, &mut buffer).is_ok());
-    assert!(write(9, &record, &mut buffer).is_ok());
-    record.offset = Some(841);
-    assert_eq!(write(8, &record, &mut buffer), Err(7));
-    assert_eq!(write(9, &record, &mut buffer), Err(7));
+    assert_eq!(write(11, &record, &mut buffer), Err(9));
+    for form in [8, 9, 11] {
+        record.offset = Some(840);
+        assert!(write(form, &record, &mut buffer).is_ok());
+        record.offset = Some(841);
+        assert_eq!(write(form, &record, &mut buffer), Err(7));
+    }
 
     let too_long = crate::generate::too_long_block();
     assert_eq!(too_long.len(), 175);
@@ -202,15 +207,17 @@ fn a_wrong_byte_is_3_before_any_range_and_a_range_is_4_before_any_disagreement()
 fn the_frame_is_refused_in_the_order_3_6_4_5() {
     let l = [30, 52, 56, 75];
     let with = |more: &[usize]| frame_with_ones(&[&l[..], more].concat());
-    assert_eq!(read(8, &with(&[98])), Err(3));
-    assert_eq!(read(8, &with(&[61])), Err(6));
-    assert_eq!(read(8, &with(&[61, 64])), Err(4));
-    // TFOM 7: three ones more, and the sign for an even number.
-    assert_eq!(read(8, &with(&[71, 72, 73, 64])), Err(4));
-    // A minus on zero, with daylight saving for an even number.
-    assert_eq!(read(8, &with(&[64, 63])), Err(5));
-    assert_eq!(read(8, &with(&[80])), Err(5));
-    let mut elements = with(&[]);
-    elements[61] = 2;
-    assert_eq!(read(8, &elements), Err(3));
+    for form in FRAME_FORMS {
+        assert_eq!(read(form, &with(&[98])), Err(3));
+        assert_eq!(read(form, &with(&[61])), Err(6));
+        assert_eq!(read(form, &with(&[61, 64])), Err(4));
+        // TFOM 7: three ones more, and the sign for an even number.
+        assert_eq!(read(form, &with(&[71, 72, 73, 64])), Err(4));
+        // A sign on zero, with daylight saving for an even number.
+        assert_eq!(read(form, &with(&[64, 63])), Err(5));
+        assert_eq!(read(form, &with(&[80])), Err(5));
+        let mut elements = with(&[]);
+        elements[61] = 2;
+        assert_eq!(read(form, &elements), Err(3));
+    }
 }

@@ -1,6 +1,6 @@
 //! The whole calendar as requests, so that no date is left to a draw.
 
-use crate::forms::string_length;
+use crate::forms::{string_length, FRAME_FORMS};
 use crate::frame::{put, put_parity};
 use crate::generate::{good_record, put_date, put_digits, valid_string, weekday_place, Random};
 use crate::protocol::{hex, spell_fields};
@@ -9,7 +9,6 @@ use crate::record::Date;
 const RACAL: u32 = 5;
 const SYSPLEX: u32 = 6;
 const COMPUTIME: u32 = 7;
-const FRAME: u32 = 8;
 
 /// Year, month and day: every year, and months and days from 0 to one beyond the last.
 fn dates() -> impl Iterator<Item = (u32, u32, u32)> {
@@ -58,8 +57,8 @@ fn weekdays_read() -> impl Iterator<Item = String> {
 
 /// All that the elements of year and day of year can tell: the days 0 to 399 of every year, since
 /// the hundreds have two elements, and every digit over 9.
-fn frames_read() -> impl Iterator<Item = String> {
-    let mut e = one_string(FRAME);
+fn frames_read(form: u32) -> impl Iterator<Item = String> {
+    let mut e = one_string(form);
     let days = |year| (0..1024).map(move |day| (year, day));
     (0..256).flat_map(days).map(move |(year, day)| {
         put(&mut e, 30..=33, day % 16);
@@ -68,7 +67,7 @@ fn frames_read() -> impl Iterator<Item = String> {
         put(&mut e, 50..=53, year % 16);
         put(&mut e, 55..=58, year / 16);
         put_parity(&mut e);
-        read_request(FRAME, &e)
+        read_request(form, &e)
     })
 }
 
@@ -89,15 +88,19 @@ fn written(form: u32, dates: impl Iterator<Item = Date>) -> impl Iterator<Item =
     })
 }
 
+fn frames_written(form: u32) -> impl Iterator<Item = String> {
+    written(form, full_dates())
+}
+
 /// Reads and writes of every date and of every day of year.
 pub fn requests() -> impl Iterator<Item = String> {
     dates_read()
         .chain(weekdays_read())
-        .chain(frames_read())
+        .chain(FRAME_FORMS.into_iter().flat_map(frames_read))
         .chain(days_of_year_read())
         .chain(written(SYSPLEX, full_dates()))
         .chain(written(COMPUTIME, full_dates()))
-        .chain(written(FRAME, full_dates()))
+        .chain(FRAME_FORMS.into_iter().flat_map(frames_written))
         .chain(written(SYSPLEX, days_of_year().map(Date::DayOfYear)))
 }
 
@@ -118,8 +121,11 @@ mod tests {
         assert_eq!(accepted(written(SYSPLEX, full_dates())), 36_525);
         // The years 00 to 03, which have one leap day.
         assert_eq!(accepted(weekdays_read().take(4 * 14 * 33 * 9)), 1_461);
-        // The years 00 to 09, which have three, and six years whose last digit is over 9.
-        assert_eq!(accepted(frames_read().take(16 * 1024)), 3_653);
+        for form in FRAME_FORMS {
+            // The years 00 to 09, which have three, and six years whose last digit is over 9.
+            assert_eq!(accepted(frames_read(form).take(16 * 1024)), 3_653);
+            assert_eq!(accepted(frames_written(form)), 36_525);
+        }
     }
 
     #[test]

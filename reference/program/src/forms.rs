@@ -1,9 +1,15 @@
-//! The two calls over all ten forms, with the tests that do not depend on the bytes.
+//! The two calls over all eleven forms, with the tests that do not depend on the bytes.
 
+use std::ops::RangeInclusive;
+
+use crate::frame::SignRule;
 use crate::record::{Date, Fraction, Record};
 use crate::{block, frame, serial};
 
-/// The length of a serial string or of the frame.
+/// The forms that are read and written: "readers and writers no longer give 1 for 11".
+pub const FORMS: RangeInclusive<u32> = 1..=11;
+
+/// The length of a serial string or of a frame.
 pub fn string_length(form: u32) -> Option<usize> {
     match form {
         1 => Some(32),
@@ -13,7 +19,7 @@ pub fn string_length(form: u32) -> Option<usize> {
         5 => Some(16),
         6 => Some(16),
         7 => Some(24),
-        8 => Some(100),
+        8 | 11 => Some(100),
         10 => Some(29),
         _ => None,
     }
@@ -23,7 +29,19 @@ pub fn string_length(form: u32) -> Option<usize> {
 /// string came after the frame and the block.
 pub const SERIAL_FORMS: [u32; 8] = [1, 2, 3, 4, 5, 6, 7, 10];
 
-/// The length of a serial string; none for the frame, the block and a number that is no form.
+/// The two frames. Search and listener know neither of them.
+pub const FRAME_FORMS: [u32; 2] = [8, 11];
+
+/// "Form 8 now follows the earlier rule"; form 11 is the "same frame with the sign as 01 had it".
+fn sign_rule(form: u32) -> SignRule {
+    if form == 11 {
+        SignRule::OneBelowZero
+    } else {
+        SignRule::OneAboveZero
+    }
+}
+
+/// The length of a serial string; none for a frame, the block and a number that is no form.
 pub fn serial_length(form: u32) -> Option<usize> {
     if SERIAL_FORMS.contains(&form) {
         string_length(form)
@@ -33,7 +51,7 @@ pub fn serial_length(form: u32) -> Option<usize> {
 }
 
 fn is_form(form: u32) -> bool {
-    (1..=10).contains(&form)
+    FORMS.contains(&form)
 }
 
 /// Form 9 has no one length: a block has 118..174 bytes.
@@ -61,7 +79,7 @@ pub fn read(form: u32, input: &[u8]) -> Result<Record, u32> {
         5 => serial::read_racal(input),
         6 => serial::read_sysplex(input),
         7 => serial::read_computime(input),
-        8 => frame::read_frame(input),
+        8 | 11 => frame::read_frame(sign_rule(form), input),
         10 => serial::read_sat(input),
         _ => block::read_block(input),
     }
@@ -93,7 +111,10 @@ pub(crate) fn carried_fields_are_there(form: u32, record: &Record) -> bool {
         // "A full date serves form 6": so any kind of date does.
         6 => record.date.is_some() && sync,
         7 => full_date,
-        8 => full_date && sync && summer && offset && record.dsp.is_some() && record.lsp.is_some(),
+        8 | 11 => {
+            let pending = record.dsp.is_some() && record.lsp.is_some();
+            full_date && sync && summer && offset && pending
+        }
         10 => full_date && sync && utc && summer && change,
         _ => true,
     }
@@ -103,7 +124,8 @@ pub(crate) fn carried_fields_are_there(form: u32, record: &Record) -> bool {
 fn form_can_say(form: u32, record: &Record) -> bool {
     match form {
         1 => !(record.change == Some(true) && record.leap == Some(true)),
-        8 => record.offset.is_none_or(|offset| offset % 30 == 0),
+        // "9 reads as for form 8, in both."
+        8 | 11 => record.offset.is_none_or(|offset| offset % 30 == 0),
         _ => true,
     }
 }
@@ -117,7 +139,7 @@ fn spell(form: u32, record: &Record) -> Vec<u8> {
         5 => serial::write_racal(record),
         6 => serial::write_sysplex(record),
         7 => serial::write_computime(record),
-        8 => frame::write_frame(record),
+        8 | 11 => frame::write_frame(sign_rule(form), record),
         10 => serial::write_sat(record),
         _ => block::write_block(record),
     }

@@ -1,4 +1,5 @@
-//! Section "The frame": form 8, one hundred elements sent as bytes 0, 1, or 2 for a mark.
+//! Section "The frame" of document 01 and W-203 of document 02: forms 8 and 11, one hundred
+//! elements sent as bytes 0, 1, or 2 for a mark. The two forms differ in their sign rule alone.
 
 use std::ops::RangeInclusive;
 
@@ -7,6 +8,39 @@ use crate::record::{offset_in_range, time_in_range, Date, Record};
 use crate::serial::{full_date, require};
 
 const MARK: u8 = 2;
+
+/// What element 64 tells of the offset. "State the layout once over the sign rule": all else in
+/// this file is the same for both.
+#[derive(Clone, Copy, Debug, PartialEq, Eq)]
+pub enum SignRule {
+    /// IEEE 1344: "sign 1 for an offset above zero, 0 for zero or below".
+    OneAboveZero,
+    /// IEEE C37.118, "the sign as 01 had it": "Sign 0 means an offset of zero or more."
+    OneBelowZero,
+}
+
+impl SignRule {
+    /// Element 64 of an offset.
+    fn sign(self, offset: i32) -> u32 {
+        u32::from(match self {
+            SignRule::OneAboveZero => offset > 0,
+            SignRule::OneBelowZero => offset < 0,
+        })
+    }
+
+    /// The offset of so many minutes with this element 64.
+    fn offset(self, sign: u8, minutes: i32) -> i32 {
+        let below_zero = match self {
+            SignRule::OneAboveZero => sign == 0,
+            SignRule::OneBelowZero => sign == 1,
+        };
+        if below_zero {
+            -minutes
+        } else {
+            minutes
+        }
+    }
+}
 
 /// "Marks stand at 0, 9, 19, .. 99."
 pub(crate) fn is_mark(place: usize) -> bool {
@@ -66,7 +100,7 @@ pub(crate) fn digits(e: &[u8]) -> [u32; 11] {
     ]
 }
 
-pub fn read_frame(e: &[u8]) -> Result<Record, u32> {
+pub fn read_frame(rule: SignRule, e: &[u8]) -> Result<Record, u32> {
     for (place, element) in e.iter().enumerate() {
         require(is_spelled(place, *element), 3)?;
     }
@@ -80,18 +114,19 @@ pub fn read_frame(e: &[u8]) -> Result<Record, u32> {
     let hour = digit[4] + 10 * digit[5];
     let day_of_year = digit[6] + 10 * digit[7] + 100 * digit[8];
     let year = digit[9] + 10 * digit[10];
-    let offset = (60 * bits(e, 65..=68) + 30 * bits(e, 70..=70)) as i32;
+    let offset_minutes = (60 * bits(e, 65..=68) + 30 * bits(e, 70..=70)) as i32;
     let tfom = bits(e, 71..=74);
     require(time_in_range(hour, minute, second), 4)?;
     // Day 366 of a common year is no such date, hence 4 as well.
     let (month, day) = calendar::month_and_day(year, day_of_year).ok_or(4u32)?;
     require(e[61] == 0, 4)?;
-    require(offset_in_range(offset), 4)?;
+    require(offset_in_range(offset_minutes), 4)?;
     require(tfom == 0 || tfom == 15, 4)?;
 
     let seconds_of_the_day = bits(e, 80..=88) + 512 * bits(e, 90..=97);
     require(seconds_of_the_day == hour * 3600 + minute * 60 + second, 5)?;
-    require(!(e[64] == 1 && offset == 0), 5)?;
+    // "Sign 1 on a zero stays 5", in both forms.
+    require(!(e[64] == 1 && offset_minutes == 0), 5)?;
     Ok(Record {
         date: Some(Date::Full { year, month, day }),
         hour,
@@ -99,7 +134,7 @@ pub fn read_frame(e: &[u8]) -> Result<Record, u32> {
         second,
         sync: Some(tfom == 0),
         summer: Some(e[63] == 1),
-        offset: Some(if e[64] == 1 { -offset } else { offset }),
+        offset: Some(rule.offset(e[64], offset_minutes)),
         dsp: Some(e[62] == 1),
         lsp: Some(e[60] == 1),
         ..Record::default()
@@ -122,7 +157,7 @@ pub(crate) fn put_parity(elements: &mut [u8]) {
     }
 }
 
-pub fn write_frame(record: &Record) -> Vec<u8> {
+pub fn write_frame(rule: SignRule, record: &Record) -> Vec<u8> {
     let (year, month, day) = full_date(record);
     let day_of_year = calendar::day_of_year(year, month, day);
     let offset = record.offset.unwrap_or_default();
@@ -149,7 +184,7 @@ pub fn write_frame(record: &Record) -> Vec<u8> {
     put(&mut e, 60..=60, u32::from(record.lsp == Some(true)));
     put(&mut e, 62..=62, u32::from(record.dsp == Some(true)));
     put(&mut e, 63..=63, u32::from(record.summer == Some(true)));
-    put(&mut e, 64..=64, u32::from(offset < 0));
+    put(&mut e, 64..=64, rule.sign(offset));
     put(&mut e, 65..=68, half_hours / 2);
     put(&mut e, 70..=70, half_hours % 2);
     put(

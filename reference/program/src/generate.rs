@@ -2,7 +2,8 @@
 
 use crate::block::KEYS;
 use crate::calendar;
-use crate::forms::{carried_fields_are_there, string_length, write, SERIAL_FORMS};
+use crate::forms::{carried_fields_are_there, string_length, write};
+use crate::forms::{FORMS, FRAME_FORMS, SERIAL_FORMS};
 use crate::frame::{bits, digits, is_always_zero, is_mark, put, put_parity};
 use crate::protocol::{hex, spell_fields};
 use crate::record::{Date, Fraction, Position, Record};
@@ -166,7 +167,7 @@ fn full_record(form: u32, random: &mut Random) -> Record {
     if form == 1 && record.change == Some(true) {
         record.leap = Some(false);
     }
-    if form == 8 {
+    if FRAME_FORMS.contains(&form) {
         record.offset = record.offset.map(|offset| offset / 30 * 30);
     }
     while !carried_fields_are_there(form, &record) {
@@ -204,7 +205,7 @@ fn other_byte(form: u32, old: u8, random: &mut Random) -> u8 {
         0 => random.byte(),
         1 => old ^ (1 << random.below(8)),
         2 => old.wrapping_add(random.pick(&[1, 255])),
-        _ if form == 8 => random.pick(&[0, 1, 2, 3]),
+        _ if FRAME_FORMS.contains(&form) => random.pick(&[0, 1, 2, 3]),
         _ if form == 10 => random.pick(b" 0123456789.:/#*!AUTCESMZutces\x02\x03\r\n"),
         _ => random.pick(usual),
     }
@@ -507,6 +508,21 @@ fn bend_frame_offset(e: &mut [u8], random: &mut Random) {
     put(e, 70..=70, random.below(2) as u32);
 }
 
+/// An element 0 or 1 turned into the other.
+fn turn(e: &mut [u8], place: usize) {
+    e[place] = 1 - e[place].min(1);
+}
+
+/// The sign turned and nothing else of the offset, or 1 on a zero.
+fn bend_frame_sign(e: &mut [u8], random: &mut Random) {
+    if random.one_in(2) {
+        turn(e, 64);
+    } else {
+        put(e, 64..=68, 1);
+        put(e, 70..=70, 0);
+    }
+}
+
 /// A mark lost, an always-zero element set, or an element that is no number.
 fn bend_frame_spelling(e: &mut [u8], random: &mut Random) {
     let place = random.below(100);
@@ -531,7 +547,7 @@ fn bend_seconds_of_the_day(e: &mut [u8], random: &mut Random) {
 }
 
 fn bend_frame(e: &mut [u8], random: &mut Random) {
-    match random.below(8) {
+    match random.below(9) {
         0 => bend_frame_date(e, random),
         1 => {
             bend_frame_time(e, random);
@@ -543,7 +559,8 @@ fn bend_frame(e: &mut [u8], random: &mut Random) {
         3 => put(e, 71..=74, random.below(16) as u32),
         4 => e[61] = 1,
         5 => bend_seconds_of_the_day(e, random),
-        6 => e[75] = 1 - e[75].min(1),
+        6 => turn(e, 75),
+        7 => bend_frame_sign(e, random),
         _ => {
             bend_frame_spelling(e, random);
             return;
@@ -655,7 +672,7 @@ fn bent(form: u32, mut s: Vec<u8>, random: &mut Random) -> Vec<u8> {
     let bends = 1 + random.below(2);
     for _ in 0..bends {
         match form {
-            8 => bend_frame(&mut s, random),
+            8 | 11 => bend_frame(&mut s, random),
             9 => return bend_block(&s, random),
             _ => bend_serial(form, &mut s, random),
         }
@@ -696,7 +713,7 @@ fn random_elements(random: &mut Random) -> Vec<u8> {
         .collect()
 }
 
-/// The endless list of inputs for one form, 1..10.
+/// The endless list of inputs for one form, 1..11.
 #[derive(Clone, Debug)]
 pub struct Inputs {
     form: u32,
@@ -737,7 +754,7 @@ impl Iterator for Inputs {
                 let length = wrong_length(form, random);
                 random.bytes(length)
             }
-            22 if form == 8 => random_elements(random),
+            22 if FRAME_FORMS.contains(&form) => random_elements(random),
             22 if form == 9 => too_long_block(),
             22 if form == 10 => other_padding(s, random),
             22 | 23 => shuffled(&s, random),
@@ -750,19 +767,20 @@ impl Iterator for Inputs {
     }
 }
 
-/// The first byte of a serial string, with which a false start is made.
+/// The first byte of a string, with which a false start is made.
 fn start_byte(form: u32) -> u8 {
     match form {
-        1 | 3 | 10 => 0x02,
+        1 | 3 | 8 | 10 | 11 => 0x02,
         2 => b'C',
         4 => b'>',
         5 => b'X',
         6 => 0x01,
+        9 => b'd',
         _ => b'T',
     }
 }
 
-/// A stream for a serial form: strings back to back, halves of them, false starts and garbage.
+/// A stream of strings of a form: back to back, halves of them, false starts and garbage.
 pub fn stream(form: u32, random: &mut Random) -> Vec<u8> {
     let mut stream = Vec::new();
     let pieces = random.below(8);
@@ -910,12 +928,22 @@ fn feed_request(form: u32, random: &mut Random) -> String {
     format!("feed {form} {distance} {} {byte:02x}", hex(&kept))
 }
 
-/// Numbers that no reader and no writer knows; one of them is 10 in its low eight bits.
-const NOT_A_FORM: [u32; 6] = [0, 11, 12, 255, 266, u32::MAX];
+/// A state whose form is not the string's, mostly one that no listener knows, with the string's head
+/// as its kept bytes. They and the distance are no longer than in a listener of some other form.
+fn wrong_feed_request(wrong: u32, s: &[u8], random: &mut Random) -> String {
+    let kept = random.below(s.len().min(66));
+    let distance = random.below(68);
+    let (head, byte) = (hex(&s[..kept]), s[kept]);
+    format!("feed {wrong} {distance} {head} {byte:02x}")
+}
 
-/// Numbers that search and listener do not know, and form 10, which a stream of another form is
-/// then searched for.
-const NOT_THIS_FORM: [u32; 9] = [0, 8, 9, 10, 11, 12, 255, 266, u32::MAX];
+/// Numbers that no reader and no writer knows; two of them are 10 and 11 in their low eight bits.
+/// Later requests make 12 (W-204), 13 (W-213) and 14 (W-214) forms.
+const NOT_A_FORM: [u32; 9] = [0, 12, 13, 14, 15, 255, 266, 267, u32::MAX];
+
+/// Numbers that search and listener do not know: those, the two frames and the block; and form 10,
+/// which a stream of another form is then searched for.
+const NOT_THIS_FORM: [u32; 13] = [0, 8, 9, 10, 11, 12, 13, 14, 15, 255, 266, 267, u32::MAX];
 
 /// The endless list of requests over all forms and kinds.
 #[derive(Clone, Debug)]
@@ -928,7 +956,7 @@ pub struct Requests {
 impl Requests {
     pub fn new(seed: u64) -> Self {
         let mut random = Random::new(seed);
-        let inputs = (1..=10)
+        let inputs = FORMS
             .map(|form| Inputs::new(form, random.next_u64()))
             .collect();
         let turn = 0;
@@ -970,11 +998,12 @@ impl Requests {
     }
 
     fn feed_request(&mut self, form: u32) -> String {
-        if self.random.one_in(40) {
-            let wrong = self.random.pick(&NOT_THIS_FORM);
-            return format!("feed {wrong} {} - 58", self.random.below(3));
+        let asked = self.sometimes_wrong(form, &NOT_THIS_FORM);
+        if asked == form && SERIAL_FORMS.contains(&form) {
+            return feed_request(form, &mut self.random);
         }
-        feed_request(form, &mut self.random)
+        let s = valid_string(form, &mut self.random);
+        wrong_feed_request(asked, &s, &mut self.random)
     }
 
     fn sometimes_wrong(&mut self, form: u32, wrong: &[u32]) -> u32 {
@@ -984,25 +1013,33 @@ impl Requests {
             form
         }
     }
+
+    /// The form whose strings are searched or listened for. A frame or a block gives its turn to a
+    /// serial form, but sometimes asks for itself, and must be refused.
+    fn form_of_stream(&mut self, form: u32) -> u32 {
+        if SERIAL_FORMS.contains(&form) || self.random.one_in(4) {
+            form
+        } else {
+            self.random.pick(&SERIAL_FORMS)
+        }
+    }
 }
 
 impl Iterator for Requests {
     type Item = String;
 
     fn next(&mut self) -> Option<String> {
-        let form = (self.turn % 10) as u32 + 1;
-        let kind = self.turn / 10 % 10;
+        let forms = FORMS.count();
+        let form = (self.turn % forms) as u32 + 1;
+        let kind = self.turn / forms % 10;
         self.turn += 1;
-        let serial_form = match form {
-            8 | 9 => self.random.between(1, 7) as u32,
-            _ => form,
-        };
+        let streamed = self.form_of_stream(form);
         Some(match kind {
             0..=4 => self.read_request(form),
             5 | 6 => self.write_request(form),
-            7 => self.search_request(serial_form),
-            8 => self.listen_request(serial_form),
-            _ => self.feed_request(serial_form),
+            7 => self.search_request(streamed),
+            8 => self.listen_request(streamed),
+            _ => self.feed_request(streamed),
         })
     }
 }
@@ -1012,7 +1049,7 @@ mod tests {
     use std::collections::{BTreeMap, BTreeSet};
 
     use super::*;
-    use crate::protocol::answer;
+    use crate::protocol::{answer, unhex};
     use crate::{read, search, Heard, Listener};
 
     /// The numbers that a reader of a form can answer.
@@ -1020,14 +1057,14 @@ mod tests {
         match form {
             1 | 3 | 7 | 9 | 10 => &[0, 2, 3, 4, 5],
             4 => &[0, 2, 3, 4, 6],
-            8 => &[0, 2, 3, 4, 5, 6],
+            8 | 11 => &[0, 2, 3, 4, 5, 6],
             _ => &[0, 2, 3, 4],
         }
     }
 
     #[test]
     fn every_possible_answer_occurs_and_no_other() {
-        for form in 1..=10 {
+        for form in FORMS {
             let mut seen = [0; 14];
             for input in Inputs::new(form, 1).take(5000) {
                 seen[read(form, &input).err().unwrap_or(0) as usize] += 1;
@@ -1042,7 +1079,7 @@ mod tests {
 
     #[test]
     fn every_refusal_of_a_writer_occurs() {
-        for form in 1..=10 {
+        for form in FORMS {
             let mut random = Random::new(u64::from(form));
             let mut seen = [0; 14];
             for _ in 0..5000 {
@@ -1061,13 +1098,13 @@ mod tests {
             }
             assert!(seen[0] > 100 && seen[7] > 100 && seen[10] > 100);
             assert_eq!(seen[8] > 100, form != 9);
-            assert_eq!(seen[9] > 20, form == 1 || form == 8);
+            assert_eq!(seen[9] > 20, form == 1 || FRAME_FORMS.contains(&form));
         }
     }
 
     #[test]
     fn an_accepted_input_written_again_is_the_same_bytes() {
-        for form in 1..=10 {
+        for form in FORMS {
             for input in Inputs::new(form, 2).take(5000) {
                 let Ok(record) = read(form, &input) else {
                     continue;
@@ -1174,9 +1211,9 @@ mod tests {
     }
 
     #[test]
-    fn the_requests_of_form_10_and_its_neighbours_meet_every_answer() {
+    fn the_requests_of_forms_8_10_and_11_and_their_neighbours_meet_every_answer() {
         let mut seen: BTreeMap<String, BTreeSet<String>> = BTreeMap::new();
-        for request in Requests::new(8).take(40_000) {
+        for request in Requests::new(8).take(80_000) {
             let answer = answer(&request);
             let kind: Vec<&str> = request.split(' ').take(2).collect();
             let answers = seen.entry(kind.join(" ")).or_default();
@@ -1188,7 +1225,11 @@ mod tests {
         assert_eq!(met("search 10"), "0 12");
         assert_eq!(met("listen 10"), "- records");
         assert_eq!(met("feed 10"), "!11 !13 - record");
-        for wrong in [0, 8, 9, 11, 12, 255, 266, u32::MAX] {
+        for frame in FRAME_FORMS {
+            assert_eq!(met(&format!("read {frame}")), "0 2 3 4 5 6");
+            assert_eq!(met(&format!("writeraw {frame}")), "0 10 7 8 9");
+        }
+        for wrong in NOT_THIS_FORM.into_iter().filter(|form| *form != 10) {
             assert_eq!(met(&format!("search {wrong}")), "1");
             assert_eq!(met(&format!("listen {wrong}")), "1");
             assert_eq!(met(&format!("feed {wrong}")), "!11");
@@ -1197,6 +1238,102 @@ mod tests {
             assert_eq!(met(&format!("read {wrong}")), "1");
             assert_eq!(met(&format!("writeraw {wrong}")), "1");
         }
+    }
+
+    /// On which side of zero an offset lies.
+    fn side(offset: i32) -> &'static str {
+        match offset.signum() {
+            1 => "above zero",
+            -1 => "below zero",
+            _ => "zero",
+        }
+    }
+
+    /// How often an answer occurs with each side of zero, or with each sign.
+    type Sides = BTreeMap<(u32, String), usize>;
+
+    fn frames_met(form: u32) -> Sides {
+        let mut met = Sides::new();
+        for input in Inputs::new(form, 9).take(20_000) {
+            let (answer, told) = match read(form, &input) {
+                Ok(record) => (0, side(record.offset.unwrap()).to_string()),
+                Err(refusal @ 4..=6) => {
+                    let zero = bits(&input, 65..=68) + bits(&input, 70..=70) == 0;
+                    let told = if zero { "on a zero" } else { "on an offset" };
+                    (refusal, format!("sign {} {told}", input[64]))
+                }
+                Err(_) => continue,
+            };
+            *met.entry((answer, told)).or_default() += 1;
+        }
+        met
+    }
+
+    #[test]
+    fn the_frames_read_meet_every_sign_with_every_answer() {
+        for form in FRAME_FORMS {
+            let met = frames_met(form);
+            let times = |answer, told: &str| met.get(&(answer, told.to_string())).copied();
+            for told in ["above zero", "below zero", "zero"] {
+                assert!(times(0, told) > Some(500), "form {form}: {met:?}");
+            }
+            for refusal in [4, 5, 6] {
+                for sign in 0..=1 {
+                    for zero in ["on a zero", "on an offset"] {
+                        let told = format!("sign {sign} {zero}");
+                        assert!(times(refusal, &told) > Some(50), "form {form}: {met:?}");
+                    }
+                }
+            }
+        }
+    }
+
+    #[test]
+    fn the_frames_written_meet_every_side_with_every_answer() {
+        for form in FRAME_FORMS {
+            let mut random = Random::new(u64::from(form));
+            let (mut met, mut offsets) = (Sides::new(), BTreeSet::new());
+            for _ in 0..20_000 {
+                let record = any_record(form, &mut random);
+                let mut buffer = vec![0; buffer_length(form, &record, &mut random)];
+                let answer = write(form, &record, &mut buffer).err().unwrap_or(0);
+                let Some(offset) = record.offset else {
+                    continue;
+                };
+                if answer == 0 {
+                    offsets.insert(offset);
+                }
+                *met.entry((answer, side(offset).to_string())).or_default() += 1;
+            }
+            for answer in [0, 7, 8, 9, 10] {
+                for side in ["above zero", "below zero", "zero"] {
+                    // Zero is a multiple of 30.
+                    let possible = !(answer == 9 && side == "zero");
+                    let times = met.get(&(answer, side.to_string())).copied();
+                    assert_eq!(possible, times > Some(50), "form {form}: {met:?}");
+                }
+            }
+            assert!(offsets.into_iter().eq((-840..=840).step_by(30)));
+        }
+    }
+
+    #[test]
+    fn streams_in_which_frames_lie_are_asked_for_frames() {
+        let kinds = ["search 8", "search 11", "listen 8", "listen 11"];
+        let mut met = [0; 4];
+        for request in Requests::new(10).take(20_000) {
+            let words: Vec<&str> = request.split(' ').collect();
+            let asked = words[..2].join(" ");
+            let Some(kind) = kinds.iter().position(|kind| *kind == asked) else {
+                continue;
+            };
+            let form = words[1].parse().unwrap();
+            let stream = unhex(words[words.len() - 1]).unwrap();
+            if stream.windows(100).any(|e| read(form, e).is_ok()) {
+                met[kind] += 1;
+            }
+        }
+        assert!(met.iter().all(|times| *times > 10), "{met:?}");
     }
 
     #[test]

@@ -1,5 +1,6 @@
 //! A second, independent implementation of document 01 ("Time strings, the frame and the block")
-//! and of document 02, W-201 (the SAT string, form 10).
+//! and of document 02, W-201 (the SAT string, form 10) and W-203 (the sign in the frame, forms 8
+//! and 11).
 //!
 //! It was written from these papers and the manuals alone, to be compared with the verified
 //! library. It is meant to be read beside the papers, not to be fast.
@@ -10,6 +11,7 @@
 pub mod block;
 pub mod calendar;
 pub mod every_date;
+pub mod every_offset;
 pub mod forms;
 pub mod frame;
 pub mod generate;
@@ -24,6 +26,8 @@ pub mod serial;
 mod bench;
 #[cfg(test)]
 mod sat;
+#[cfg(test)]
+mod signs;
 #[cfg(test)]
 mod vectors;
 

@@ -5,7 +5,8 @@ use std::io::{self, Read, Write};
 use crate::block::write_block;
 use crate::listener::{Heard, Listener};
 
-/// The form of the first line: "one byte `1`..`7`, LF". So form 10 cannot be asked for here.
+/// The form of the first line: "one byte `1`..`7`, LF". So form 10 cannot be asked for here, and no
+/// frame.
 fn form_of(head: &[u8]) -> Option<u32> {
     match head {
         [digit @ b'1'..=b'7', b'\n'] => Some(u32::from(digit - b'0')),
@@ -60,7 +61,7 @@ mod tests {
         for input in [&b""[..], b"1", b"8\n", b"0\n", b"1x", b"11\n", b"\n"] {
             assert_eq!(printed(input), "refused=1\n");
         }
-        // Form 10 has two digits; the byte behind `9` is no digit.
+        // Forms 10 and 11 have two digits; the byte behind `9` is no digit.
         for input in [&b"10\n"[..], b"10", b":\n", b"A\n", b"\n\n"] {
             assert_eq!(printed(input), "refused=1\n");
         }

@@ -266,7 +266,8 @@ mod tests {
     fn the_requests_are_answered() {
         let racal = hex(b"XGU000229000000\r");
         assert!(answer(&format!("read 5 {racal}")).starts_with("0 646174653d30302d30322d32390a"));
-        assert_eq!(answer("read 11 -"), "1");
+        assert_eq!(answer("read 15 -"), "1");
+        assert_eq!(answer("read 11 -"), "2");
         assert_eq!(answer("read 10 -"), "2");
         assert_eq!(answer("read 5 -"), "2");
         let fields = "full:0:2:29,0:0:0,-,-,-,-,-,-,-,-,-,-,-,-";
@@ -276,16 +277,21 @@ mod tests {
         );
         assert_eq!(answer(&format!("writeraw 5 {fields} 2")), "10 0 5555");
         assert_eq!(answer(&format!("writeraw 6 {fields} 0")), "8 0 -");
+        assert_eq!(answer(&format!("writeraw 11 {fields} 0")), "8 0 -");
+        assert_eq!(answer(&format!("writeraw 15 {fields} 0")), "1 0 -");
+        assert_eq!(answer("search 11 0 02"), "1 0");
         assert!(answer(&format!("search 5 1 58{racal}")).starts_with("0 1 64617465"));
         assert_eq!(answer(&format!("search 5 1 {racal}")), "12 0");
         assert!(answer(&format!("listen 5 58{racal}")).starts_with("17:64617465"));
         assert_eq!(answer("listen 5 -"), "-");
         assert_eq!(answer("listen 8 0000"), "1 1!11 2!11");
         assert_eq!(answer("listen 10 0000"), "-");
+        assert_eq!(answer("listen 11 0000"), "1 1!11 2!11");
         assert_eq!(answer("feed 5 16 - 58"), "- 5 16 58");
         assert_eq!(answer("feed 5 17 - 58"), "!11 5 17 -");
         assert_eq!(answer("feed 10 29 - 02"), "- 10 29 02");
         assert_eq!(answer("feed 10 30 - 02"), "!11 10 30 -");
+        assert_eq!(answer("feed 11 99 02 00"), "!11 11 99 02");
         assert_eq!(answer("reed 5 -"), "?");
     }
 

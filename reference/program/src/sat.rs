@@ -261,7 +261,7 @@ fn a_buffer_of_28_bytes_is_10_and_of_30_keeps_its_last() {
     let longer = [&bytes[..], &[0x55]].concat();
     assert_eq!(written(&record, 30), (Ok(29), longer));
     let mut buffer = [0x55; 30];
-    assert_eq!(write(11, &record, &mut buffer), Err(1));
+    assert_eq!(write(15, &record, &mut buffer), Err(1));
 }
 
 /// The records that a listener hands out, each with the number of its last byte.

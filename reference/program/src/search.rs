@@ -42,7 +42,7 @@ mod tests {
 
     #[test]
     fn a_wrong_form_is_1_before_12() {
-        for form in [0, 8, 9, 11, 12, 266, u32::MAX] {
+        for form in [0, 8, 9, 11, 12, 15, 266, 267, u32::MAX] {
             assert_eq!(search(form, RACAL, 99), Err(1));
         }
     }

@@ -82,12 +82,12 @@ fn strings_from_outside() {
 
 #[test]
 fn sat_strings() {
-    assert_eq!(check("sat.txt"), 104);
+    assert_eq!(check("sat.txt"), 106);
 }
 
 #[test]
 fn frames() {
-    assert_eq!(check("frames.txt"), 40);
+    assert_eq!(check("frames.txt"), 160);
 }
 
 #[test]

@@ -3,7 +3,7 @@ use lindenscoop::{
     Refusal,
 };
 
-const NAMES: [&str; 10] = [
+const NAMES: [&str; 11] = [
     "standard",
     "capture",
     "erlangen",
@@ -14,6 +14,7 @@ const NAMES: [&str; 10] = [
     "frame",
     "block",
     "sat",
+    "c37118",
 ];
 
 /// A record that every form can say.
@@ -69,6 +70,7 @@ fn the_constants_have_their_names() {
         Form::FRAME,
         Form::BLOCK,
         Form::SAT,
+        Form::C37118,
     ];
     assert_eq!(constants.map(|form| form.name()), NAMES.map(Some));
 }
@@ -78,7 +80,7 @@ fn other_words_and_numbers_are_no_forms() {
     for word in [
         "",
         "0",
-        "11",
+        "15",
         "05",
         "010",
         "+5",
@@ -89,15 +91,16 @@ fn other_words_and_numbers_are_no_forms() {
         "4294967297",
         "RACAL1",
         "SAT ",
+        "C37.118",
     ] {
         let error = word.parse::<Form>().unwrap_err().to_string();
         assert!(
             error.starts_with(&format!("there is no form {word:?}; ")),
             "{error}"
         );
-        assert!(error.ends_with("standard (1), capture (2), erlangen (3), spa (4), racal (5), sysplex (6), computime (7), frame (8), block (9), sat (10)"), "{error}");
+        assert!(error.ends_with("standard (1), capture (2), erlangen (3), spa (4), racal (5), sysplex (6), computime (7), frame (8), block (9), sat (10), c37118 (11)"), "{error}");
     }
-    for number in [0, 11, 77, u32::MAX] {
+    for number in [0, 15, 77, u32::MAX] {
         assert_eq!(Form::try_from(number), Err(Refusal::UnknownForm));
         assert_eq!((Form(number).name(), Form(number).length()), (None, None));
         assert_eq!(Form(number).to_string(), number.to_string());

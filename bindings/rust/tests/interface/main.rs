@@ -2,6 +2,7 @@
 
 mod dates;
 mod forms;
+mod frames;
 mod places;
 mod refusals;
 mod sat;

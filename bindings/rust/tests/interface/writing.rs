@@ -19,7 +19,7 @@ fn a_refused_append_leaves_the_vector_as_it_is() {
     let mut out = b"before".to_vec();
     let empty = Record::default();
     assert_eq!(
-        append(Form(11), &empty, &mut out),
+        append(Form(15), &empty, &mut out),
         Err(Refusal::UnknownForm)
     );
     assert_eq!(

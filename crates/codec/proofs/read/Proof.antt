@@ -1,4 +1,4 @@
--- The frame and the block have readers of their own; any other number is that of a serial form or of none.
+-- The frames and the block have readers of their own; any other number is that of a serial form or of none.
 use borrow.Author.Needs.{needs}
 use Rattle.forms.specs.Forms.{formKindOf, readAs, readForm}
 use Rattle.codec.proofs.Numbers.{other-form}
@@ -10,5 +10,6 @@ unfolding readForm readAs formKindOf
 read-spec =
     tie.close
     (tie.spec
-    (λ c κs. search needs) (λ c κs. search needs) (λ c κs. search needs) (λ c. rw (c .before .match .keys1) (c .read .ensures))
-    (λ c. rw (c .before .match .keys2) (c .read2 .ensures)) (λ c. rw (other-form _ (c .before .match .rest)) (c .read3 .ensures)))
+    (λ c κs. search needs) (λ c κs. search needs) (λ c κs. search needs) (λ c κs. search needs) (λ c. rw (c .before .match .keys1) (c .read .ensures))
+    (λ c. rw (c .before .match .keys2) (c .read2 .ensures)) (λ c. rw (c .before .match .keys3) (c .read3 .ensures))
+    (λ c. rw (other-form _ (c .before .match .rest)) (c .read4 .ensures)))

@@ -1,4 +1,4 @@
--- The frame and the block have writers of their own; any other number is that of a serial form or of none.
+-- The frames and the block have writers of their own; any other number is that of a serial form or of none.
 use Rattle.cond.proofs.Kit.{ap, needs}
 use Rattle.forms.specs.Forms.{allForms, formKindOf}
 use Rattle.serial.proofs.Numbers.{wrote-sized}
@@ -11,8 +11,10 @@ unfolding formKindOf
 write-spec =
     tie.close
     (tie.spec
-    (λ c κs. search needs) (λ c κs. search needs) (λ c κs. search needs) (λ c. search needs)
+    (λ c κs. search needs) (λ c κs. search needs) (λ c κs. search needs) (λ c κs. search needs) (λ c. search needs)
     (λ c. wrote-sized (ap (formKindOf allForms) (c .before .before .before .before .match .keys1)) (c .before .before .write .ensures))
     (λ c. search needs)
     (λ c. wrote-block (ap (formKindOf allForms) (c .before .before .before .before .match .keys2)) (c .before .before .write2 .ensures))
-    (λ c. search needs) (λ c. rw (other-form _ (c .before .before .before .before .match .rest)) (c .before .before .write3 .ensures)))
+    (λ c. search needs)
+    (λ c. wrote-sized (ap (formKindOf allForms) (c .before .before .before .before .match .keys3)) (c .before .before .write3 .ensures))
+    (λ c. search needs) (λ c. rw (other-form _ (c .before .before .before .before .match .rest)) (c .before .before .write4 .ensures)))

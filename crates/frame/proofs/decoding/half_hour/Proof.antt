@@ -1,7 +1,6 @@
 -- The tests are those of the words, one after the other.
 use Rattle.forms.specs.Slots.{halfHour}
-use Rattle.forms.specs.Frame.{frame}
-use Rattle.forms.specs.Form.{valuesBy}
+use Rattle.frame.specs.Layouts.{told}
 use Rattle.forms.proofs.Layouts.{piece-length}
 use Rattle.spelling.proofs.Spelling.{sized-value}
 use Rattle.spelling.specs.Spelling.{words}
@@ -12,7 +11,7 @@ use Rattle.frame.proofs.decoding.half_hour.Statement.{statement}
 use Rattle.frame.proofs.decoding.half_hour.Tie as tie
 
 -- what the element tells is its place among the words
-half : (s : List ℕ) → length s ≡ 100 → valuesBy frame s halfHour ≡ wordPlace ((0 ∷ []) ∷ (1 ∷ []) ∷ []) (take 1 (drop 70 s))
+half : (s : List ℕ) → length s ≡ 100 → told s halfHour ≡ wordPlace ((0 ∷ []) ∷ (1 ∷ []) ∷ []) (take 1 (drop 70 s))
 unfolding values groupsWidth
 half s l = sized-value _ (words 1 ((0 ∷ []) ∷ (1 ∷ []) ∷ [])) (piece-length 70 s 1 (omega arith))
 

@@ -16,4 +16,4 @@ store-spec =
     let parity = simp (j .put-rows .ensures, j .before .before .rows-of .ensures) at (c .before .before .before .before .before .parity-of .ensures) in
     c .before .before .put-rows2 .ensures
     ∙ simp (c .before .before .before .before .rows-of2 .ensures)
-    (ap (λ (l : List ℕ). l ++ drop 100 (now (b .args .out))) (rows-frame (b .args .r) (b .args .minus) _ _ (b .pre .expressible) parity))))
+    (ap (λ (l : List ℕ). l ++ drop 100 (now (b .args .out))) (rows-frame (b .args .rule) (b .args .r) _ _ (b .pre .expressible) parity))))
