@@ -80,7 +80,7 @@ keeps unknown h b = unknown-keeps
 pub form-keeps : Keeps (block firstEdition) → (n : ℕ) → Keeps (formKindOf allForms n)
 form-keeps b n =
     keeps (formKindOf allForms n) (variant-passes (passes isSoundForm) allForms n all-sound)
-    (by-number (λ m. Shown) allForms (tt, (tt, (tt, (tt, (tt, (tt, (tt, (tt, (tt, (b, (tt, tt))))))))))) (λ m. tt) n)
+    (by-number (λ m. Shown) allForms (tt, (tt, (tt, (tt, (tt, (tt, (tt, (tt, (tt, (tt, (b, tt))))))))))) (λ m. tt) n)
 
 -- the serial forms
 

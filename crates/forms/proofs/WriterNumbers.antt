@@ -68,8 +68,8 @@ form-numbered =
     also sized-numbered 3 erlangen (λ r g. simp two) also sized-numbered 4 spa (λ r g. refl) also sized-numbered 5 racal (λ r g. refl)
     also sized-numbered 6 sysplex (λ r g. simp two) also sized-numbered 7 computime (λ r g. refl)
     also sized-numbered 10 sat (λ r g. simp (two, three, zoned r g))
-    also sized-numbered 8 (frame OneAbove) (λ r g. frame-worded OneAbove r) also block-numbered
-    also sized-numbered 11 (frame OneBelow) (λ r g. frame-worded OneBelow r) also tt)
+    also sized-numbered 8 (frame OneAbove) (λ r g. frame-worded OneAbove r) also sized-numbered 11 (frame OneBelow) (λ r g. frame-worded OneBelow r)
+    also block-numbered also tt)
     (λ n r room k. absurd (false≢true k))
 
 unknown-one : (l : FormKind) (r : Record) (room : ℕ) → isKnown l ≡ false → writeNumber (writeAs l r room) ≡ 1

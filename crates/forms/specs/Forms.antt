@@ -44,7 +44,7 @@ serialForms =
 -- all forms, which readers and writers take; W-203: form 8 has "sign 1 for an offset above zero", form 11 is the "same frame with the sign as
 -- 01 had it"
 abbrev pub allForms : List Numbered
-allForms = serialForms ++ (numbered 8 (sized (frame OneAbove)) ∷ numbered 9 (block firstEdition) ∷ numbered 11 (sized (frame OneBelow)) ∷ [])
+allForms = serialForms ++ (numbered 8 (sized (frame OneAbove)) ∷ numbered 11 (sized (frame OneBelow)) ∷ numbered 9 (block firstEdition) ∷ [])
 
 -- the number of a frame's form
 abbrev pub frameForm : SignRule → ℕ

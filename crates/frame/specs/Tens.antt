@@ -4,8 +4,6 @@ use Prim.Native.Nat.{ℕ, _+_, _/_, _%_}
 use lib.ListN.{set}
 use Rattle.spelling.specs.Stored.{stored}
 use Rattle.spelling.specs.Bytes.{bitsOf}
-use Rattle.record.specs.declared.sign.SignRule.{SignRule}
-use Rattle.forms.specs.Fields.Offset.{signSlot}
 use Rattle.forms.specs.Slots.{Values, checksum, daySeconds, dsp, halfHour, hour, lsp, minute, offsetHours, ordinal, quality, second, summer, year}
 
 -- a row that tells nothing: "Marks stand at .. 9, 19, .. 99", "the rest is 0"
@@ -20,25 +18,25 @@ withBits row k w n = stored row k (bitsOf w n)
 abbrev pub withPair : List ℕ → ℕ → ℕ → ℕ → List ℕ
 withPair row k high n = withBits (withBits row k 4 (n % 10)) (k + 5) high (n / 10 % 10)
 
--- "60 lsp; 61 leap deletion; 62 dsp; 63 summer; 64 offset sign; 65-68 whole hours of offset"; no second is deleted
-abbrev pub zoneRow : SignRule → Values → List ℕ
-zoneRow x v =
-    withBits (withBits (withBits (withBits (withBits blank 0 1 (v lsp)) 2 1 (v dsp)) 3 1 (v summer)) 4 1 (v (signSlot x))) 5 4 (v offsetHours)
+-- "60 lsp; 61 leap deletion; 62 dsp; 63 summer; 64 offset sign; 65-68 whole hours of offset", the sign given; no second is deleted
+abbrev pub zoneRow : ℕ → Values → List ℕ
+zoneRow sign v =
+    withBits (withBits (withBits (withBits (withBits blank 0 1 (v lsp)) 2 1 (v dsp)) 3 1 (v summer)) 4 1 sign) 5 4 (v offsetHours)
 
 -- "70 its half hour; 71-74 TFOM; 75 parity"
 abbrev pub qualityRow : Values → List ℕ
 qualityRow v = withBits (withBits (withBits blank 0 1 (v halfHour)) 1 4 (v quality)) 5 1 (v checksum)
 
--- the ten rows of a frame that tells v: "Marks stand at 0", too; the day of the year goes on from 38 to 40, the seconds of the day from 88 to 90
-unfoldable pub tenRows : SignRule → Values → List (List ℕ)
-tenRows x v =
+-- the ten rows of a frame that tells v and this sign: "Marks stand at 0", too; the day of the year goes on from 38 to 40, the seconds of the day from 88 to 90
+unfoldable pub tenRows : ℕ → Values → List (List ℕ)
+tenRows sign v =
     withPair (set blank 0 2) 1 3 (v second)
     ∷ withPair blank 0 3 (v minute)
     ∷ withPair blank 0 2 (v hour)
     ∷ withPair blank 0 4 (v ordinal)
     ∷ withBits blank 0 2 (v ordinal / 10 / 10 % 10)
     ∷ withPair blank 0 4 (v year)
-    ∷ zoneRow x v
+    ∷ zoneRow sign v
     ∷ qualityRow v
     ∷ withBits blank 0 9 (v daySeconds % 512)
     ∷ withBits blank 0 8 (v daySeconds / 512 % 512)

@@ -8,12 +8,10 @@ ghost use Rattle.forms.specs.Checksum.{withChecksum};
 ghost use Rattle.forms.specs.Fields.Offset.{halfHourOf, encodeMinutes};
 ghost use Rattle.forms.specs.Encode.{encode};
 ghost use Rattle.frame.specs.Tens.{qualityRow, tenRows, withBits, withPair, zoneRow};
-use crate::sign::sign_of;
 use crate::validation::seconds_of_day;
 use record::Flag;
 use record::Offset;
 use record::Record;
-use record::sign::SignRule;
 
 // A row that tells nothing.
 const BLANK: [u8; 10] = [0, 0, 0, 0, 0, 0, 0, 0, 0, 2];
@@ -63,9 +61,9 @@ pub(crate) fn half_hour_of(offset: Offset) -> u32
     2
 }
 
-// What is pending, summer time, and the offset.
-fn zone_row(r: Record, rule: SignRule) -> [u8; 10]
-    ensures { λ x. ⌜ x ≡ zoneRow rule (encode r) ⌝ }
+// What is pending, summer time, and the offset with this sign.
+fn zone_row(r: Record, sign: u32) -> [u8; 10]
+    ensures { λ x. ⌜ x ≡ zoneRow sign (encode r) ⌝ }
 {
     let lsp = r.lsp;
     let dsp = r.dsp;
@@ -74,7 +72,7 @@ fn zone_row(r: Record, rule: SignRule) -> [u8; 10]
     let row = with_bits(BLANK, 0, 1, flag_element(lsp));
     let row = with_bits(row, 2, 1, flag_element(dsp));
     let row = with_bits(row, 3, 1, flag_element(summer));
-    let row = with_bits(row, 4, 1, sign_of(rule, offset));
+    let row = with_bits(row, 4, 1, sign);
     with_bits(row, 5, 4, fields::minutes_of(offset) / 60)
 }
 
@@ -89,10 +87,10 @@ fn quality_row(r: Record, parity: u32) -> [u8; 10]
     with_bits(row, 5, 1, parity)
 }
 
-// The frame of a record with this parity.
-pub(crate) fn rows_of(r: Record, rule: SignRule, parity: u32) -> [[u8; 10]; 10]
+// The frame of a record with this sign and this parity.
+pub(crate) fn rows_of(r: Record, sign: u32, parity: u32) -> [[u8; 10]; 10]
     requires { ⌜ isGood r ≡ true ⌝ }
-    ensures { λ f. ⌜ f ≡ tenRows rule (withChecksum (encode r) parity) ⌝ }
+    ensures { λ f. ⌜ f ≡ tenRows sign (withChecksum (encode r) parity) ⌝ }
 {
     let date = r.date;
     let day = fields::ordinal_of(date);
@@ -104,7 +102,7 @@ pub(crate) fn rows_of(r: Record, rule: SignRule, parity: u32) -> [[u8; 10]; 10]
         with_pair(BLANK, 0, 4, day),
         with_bits(BLANK, 0, 2, day / 10 / 10 % 10),
         with_pair(BLANK, 0, 4, fields::year_of(date)),
-        zone_row(r, rule),
+        zone_row(r, sign),
         quality_row(r, parity),
         with_bits(BLANK, 0, 9, seconds % 512),
         with_bits(BLANK, 0, 8, seconds / 512 % 512),

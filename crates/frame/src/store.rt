@@ -11,6 +11,7 @@ ghost use Rattle.places.specs.Admitted.{Storable};
 ghost use Rattle.frame.specs.Tens.{joined};
 use crate::parity::parity_of;
 use crate::rows::rows_of;
+use crate::sign::sign_of;
 use record::Record;
 use record::sign::SignRule;
 
@@ -38,7 +39,9 @@ pub(crate) fn store(r: Record, rule: SignRule, out: &mut [u8])
     requires { ⌜ Storable (frame rule) r (length (now out)) ⌝ }
     ensures { λ _. ⌜ now (out .exit) ≡ bytesBy (frame rule) (encode r) ++ drop 100 (now (out .entry)) ⌝ }
 {
+    let offset = r.offset;
+    let sign = sign_of(rule, offset);
     let mut elements = [0; 100];
-    put_rows(rows_of(r, rule, 0), &mut elements);
-    put_rows(rows_of(r, rule, parity_of(&elements)), out);
+    put_rows(rows_of(r, sign, 0), &mut elements);
+    put_rows(rows_of(r, sign, parity_of(&elements)), out);
 }

@@ -80,7 +80,7 @@ static void remove_field(lindenscoop_record *r)
 
 static void compare_writers(void)
 {
-    static const uint32_t forms[] = {0, 1, 2, 3, 4, 5, 6, 7, 9, 9, 10, 11, 266, 4294967295};
+    static const uint32_t forms[] = {0, 1, 2, 3, 4, 5, 6, 7, 9, 9, 10, 15, 266, 4294967295};
     lindenscoop_record r;
     random_record(form, &r);
     compare_write(form, &r, plain_shapes[form].length - 1 + below(3));

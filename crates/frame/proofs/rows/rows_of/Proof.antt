@@ -4,7 +4,6 @@ use Rattle.cond.proofs.Kit.{arith, needs, _∙_}
 use Rattle.frame.specs.Tens.{tenRows}
 use Rattle.forms.specs.Slots.{hour, minute, second}
 use Rattle.forms.proofs.Bounds.{encode-lt, good}
-use Rattle.forms.proofs.Frames.{sign-stays}
 use Rattle.forms.proofs.Limits.{bound}
 use Rattle.frame.proofs.rows.rows_of.Statement.{statement}
 use Rattle.frame.proofs.rows.rows_of.Tie as tie
@@ -25,8 +24,7 @@ returns c =
     (simp (k .before .before .before .with-pair3 .ensures, k .before .before .with-pair4 .ensures, k .before .with-bits .ensures)
     (simp (c .before .before .before .before .with-pair5 .ensures, c .before .before .before .zone-row .ensures)
     (simp (c .before .before .quality-row .ensures, c .before .with-bits2 .ensures, c .with-bits3 .ensures)
-    (simp sign-stays
-    (simp (j .before .ordinal-of .ensures ∙ ordinal-in-range (e .args .r .date) (good (e .args .r) (e .pre) .date), j .seconds-of-day .ensures, k .year-of .ensures))))))
+    (simp (j .before .ordinal-of .ensures ∙ ordinal-in-range (e .args .r .date) (good (e .args .r) (e .pre) .date), j .seconds-of-day .ensures, k .year-of .ensures)))))
 
 pub rows-of-spec : {M : Type 1} → statement M
 rows-of-spec =

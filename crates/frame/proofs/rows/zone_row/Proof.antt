@@ -1,6 +1,5 @@
 -- Each number is a call, stored one after the other.
-use Rattle.cond.proofs.Kit.{_∙_, needs, sym}
-use Rattle.forms.proofs.Fields.Offset.{encode-sign}
+use borrow.Author.Needs.{needs}
 use Rattle.frame.proofs.rows.zone_row.Statement.{statement}
 use Rattle.frame.proofs.rows.zone_row.Tie as tie
 
@@ -9,11 +8,9 @@ zone-row-spec =
     tie.close
     (tie.spec
     (λ c κs. search needs) (λ c κs. search needs) (λ c κs. search needs) (λ c κs. search needs) (λ c κs. search needs) (λ c κs. search needs)
-    (λ c κs. search needs) (λ c κs. search needs) (λ c κs. search needs) (λ c κs. search needs)
+    (λ c κs. search needs) (λ c κs. search needs) (λ c κs. search needs)
     (λ c.
-    let j = c .before .before .before in
-    let k = j .before .before in
-    let a = k .before .before .before .before .before .args in
-    simp (c .with-bits5 .ensures, c .before .minutes-of .ensures, c .before .before .with-bits4 .ensures, j .sign-of .ensures ∙ sym (encode-sign (a .rule) (a .r)), j .before .with-bits3 .ensures)
+    let k = c .before .before .before .before in
+    simp (c .with-bits5 .ensures, c .before .minutes-of .ensures, c .before .before .with-bits4 .ensures, c .before .before .before .with-bits3 .ensures)
     (simp (k .flag-element3 .ensures, k .before .with-bits2 .ensures, k .before .before .flag-element2 .ensures)
     (simp (k .before .before .before .with-bits .ensures, k .before .before .before .before .flag-element .ensures)))))
