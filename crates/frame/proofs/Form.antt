@@ -2,7 +2,7 @@
 use Rattle.forms.proofs.Layouts.{piece-length}
 use Rattle.spelling.proofs.Spelling.{sized-value}
 use Rattle.spelling.specs.Spelling.{bits, valueOf}
-use Rattle.cond.proofs.Kit.{_&&_, _*_, _+_, _<_, _∙_, _≡_, and-true, ap, arith, Bool, drop, drop-cons, eqb, false, getD, length, List, ne-eqb, not, refl, suc, sym, take, true, zero, ℕ}
+use Rattle.cond.proofs.Kit.{_&&_, _*_, _+_, _<_, _∙_, _≡_, and-true, ap, arith, Bool, drop, drop-cons, eqb, getD, length, List, ne-eqb, not, refl, suc, sym, take, true, zero, ℕ}
 use Rattle.spelling.specs.Bytes.{bitsNumber}
 use lib.Dec.{eqb·suc-zero}
 use lib.IntN.{negsuc, pos}
@@ -59,13 +59,10 @@ sign-read OneAbove (suc sign) zero = refl
 sign-read OneAbove (suc sign) (suc n) = refl
 
 pub sign-written : (x : SignRule) (o : Offset) → oneIf (minusBy x (isMinus o) && not (eqb (encodeMinutes o) 0)) ≡ encodeMinus (toldBy x o)
-sign-written x offsetIs.Absent = none x
-  where
-    none : (x : SignRule) → oneIf (minusBy x false && false) ≡ encodeMinus (toldBy x offsetIs.Absent)
-    none OneBelow = refl
-    none OneAbove = refl
+sign-written OneBelow offsetIs.Absent = refl
 sign-written OneBelow (offsetIs.Minutes (pos n)) = refl
 sign-written OneBelow (offsetIs.Minutes (negsuc n)) = simp (eqb·suc-zero n)
+sign-written OneAbove offsetIs.Absent = refl
 sign-written OneAbove (offsetIs.Minutes (pos zero)) = refl
 sign-written OneAbove (offsetIs.Minutes (pos (suc n))) = simp (eqb·suc-zero n)
 sign-written OneAbove (offsetIs.Minutes (negsuc n)) = refl
