@@ -9,7 +9,7 @@ use record::answer::Reading;
 use record::answer::Writing;
 use record::sign::SignRule;
 
-// The rule of a frame's number. One call for both frames keeps the compiler from copying the record for every form.
+// The rule of a frame's number. Both frames have one call: with a call for each, strings of every form took longer (docs/BENCHMARK.md).
 fn sign_rule(form: u32) -> SignRule
     ensures { λ x. ⌜ x ≡ pick (eqb form 8) OneAbove OneBelow ⌝ }
 {
