@@ -22,7 +22,7 @@ ROOT = pathlib.Path(__file__).resolve().parent.parent
 LIBRARY = ROOT / "target/staticlib/liblindenscoop.a"
 MADE = ROOT / "target/bench"
 CARGO = ROOT / "target/cargo"
-FORMS = {1: "Standard", 2: "Capture", 3: "Uni Erlangen", 4: "ABB SPA", 5: "RACAL", 6: "SYSPLEX-1", 7: "Computime", 10: "SAT"}
+FORMS = {1: "Standard", 2: "Capture", 3: "Uni Erlangen", 4: "ABB SPA", 5: "RACAL", 6: "SYSPLEX-1", 7: "Computime", 10: "SAT", 12: "RMC"}
 # the forms that the program heard takes; it refuses the line of any other, and then there is nothing to measure
 HEARD_FORMS = range(1, 8)
 KINDS = {"dense": "strings back to back", "sparse": "one string in 960 bytes", "noise": "random bytes"}
@@ -84,7 +84,7 @@ def heard_output(side, data):
 
 def compare(sides):
     print(output([MADE / "compare", "1", "10000"]).decode(), end="", file=sys.stderr)
-    inputs = [b"", b"1", b"8\n", b"0\n", b"1x", b"\n", b"7\n", b"10", b"10\n", b":\n"]
+    inputs = [b"", b"1", b"8\n", b"0\n", b"1x", b"\n", b"7\n", b"10", b"10\n", b":\n", b"12\n", b"<\n"]
     inputs += [stream(form, kind, COUNTED).read_bytes() for form in FORMS for kind in (*KINDS, "damaged")]
     for data in inputs:
         if len({heard_output(side, data) for side in sides}) != 1:

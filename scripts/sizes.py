@@ -18,6 +18,13 @@ import tempfile
 ROOT = pathlib.Path(__file__).resolve().parent.parent
 LIBRARY = ROOT / "target/staticlib/liblindenscoop.a"
 NAMES = ("read", "write", "search", "start", "feed", "feed_all", "mark", "day_number")
+# those that take no record
+RAW = ("start", "mark", "day_number")
+
+
+def exported(name):
+    """The name by which the library exports a function."""
+    return f"lindenscoop_{name}_{'raw' if name in RAW else 'numbers'}"
 
 
 def output(*words, **more):
@@ -72,7 +79,7 @@ def bounds():
     unknown = {other for named in calls.values() for other in named} - frames.keys()
     if unknown - {"memcpy"}:
         sys.exit(f"sizes: these are called and not in the library: {unknown}")
-    return {name: deepest(f"lindenscoop_{name}_raw") for name in NAMES}
+    return {name: deepest(exported(name)) for name in NAMES}
 
 
 def text_size():
@@ -85,7 +92,7 @@ def main():
     print(f"code and constants: {text} bytes; variables: {data + bss} bytes")
     found, most = touched(), bounds()
     for name in NAMES:
-        print(f"lindenscoop_{name}_raw: stack touched {found[name]} bytes, at most {most[name]}")
+        print(f"{exported(name)}: stack touched {found[name]} bytes, at most {most[name]}")
         if found[name] > most[name]:
             sys.exit("sizes: more was touched than the machine code can take")
 

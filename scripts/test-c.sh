@@ -12,23 +12,30 @@ warn='-Wall -Wextra -Wpedantic -Wconversion -Wsign-conversion -Wshadow -Werror'
 sane='-g -O1 -fsanitize=address,undefined -fno-sanitize-recover=all'
 cc=${CC:-cc} cxx=${CXX:-c++}
 
-# Every exported function is declared, ends in _raw, and has one of the plain name over it.
+# Every exported function is declared, ends in _numbers where it takes a record and in _raw where it takes none, and has one of the plain name over it.
 exported=$(nm -g --defined-only "$lib" | sed -n 's/^.* T //p' | sort)
 declared=$(sed -n 's/^LINDENSCOOP_NOT_NULL uint32_t \(lindenscoop_[a-z_]*\)(.*;$/\1/p' "$include/lindenscoop.h" | sort)
 [ -n "$exported" ] && [ "$exported" = "$declared" ] || { printf 'test-c: the library exports\n%s\nand the header declares\n%s\n' "$exported" "$declared" >&2; exit 1; }
 for name in $exported; do
-    plain=${name%_raw}
+    end=_raw
+    if grep -q "^LINDENSCOOP_NOT_NULL uint32_t $name(.*numbers" "$include/lindenscoop.h"; then
+        end=_numbers
+    fi
+    plain=${name%"$end"}
     [ "$plain" != "$name" ] && grep -q "^static inline uint32_t $plain(" "$include/lindenscoop.h" \
-        || { echo "test-c: $name has no function over structs named without _raw" >&2; exit 1; }
+        || { echo "test-c: $name does not end in $end, or there is no function of the name without it" >&2; exit 1; }
 done
 
 # The oldest and the named standards of both languages.
-$cc -std=c99 $warn -fsyntax-only -I$include bindings/c/tests/fields.c
-$cxx -std=c++11 -x c++ $warn -Wold-style-cast -fsyntax-only -I$include bindings/c/tests/fields.c
-$cc -std=c11 $sane $warn -I$include bindings/c/tests/fields.c "$lib" -o "$made/fields_c"
-$cxx -std=c++17 $sane $warn -Wold-style-cast -I$include -x c++ bindings/c/tests/fields.c -x none "$lib" -o "$made/fields_cpp"
-"$made/fields_c"
-"$made/fields_cpp"
+for name in fields kinds rmc; do
+    source=bindings/c/tests/$name.c
+    $cc -std=c99 $warn -fsyntax-only -I$include $source
+    $cxx -std=c++11 -x c++ $warn -Wold-style-cast -fsyntax-only -I$include $source
+    $cc -std=c11 $sane $warn -I$include $source "$lib" -o "$made/${name}_c"
+    $cxx -std=c++17 $sane $warn -Wold-style-cast -I$include -x c++ $source -x none "$lib" -o "$made/${name}_cpp"
+    "$made/${name}_c"
+    "$made/${name}_cpp"
+done
 
 # Whether a field is there must be looked at.
 printf '#include "lindenscoop.h"\nint main(void) { lindenscoop_record r = {0}; int32_t minutes = 0; lindenscoop_get_offset(&r, &minutes); return minutes; }\n' >"$made/unlooked.c"
@@ -37,8 +44,42 @@ if $cc -std=c11 -Werror -I$include -c "$made/unlooked.c" -o "$made/unlooked.o" 2
     exit 1
 fi
 
+# Whether the header declares a name, and whether a program that calls it can be linked.
+is_declared() {
+    printf '#include "lindenscoop.h"\nint main(void) { (void)%s; return 0; }\n' "$1" >"$made/declared.c"
+    LC_ALL=C $cc -std=c11 -fsyntax-only -I$include "$made/declared.c" 2>"$made/declared.log"
+}
+is_linked() {
+    printf 'int %s(void);\nint main(void) { return %s(); }\n' "$1" "$1" >"$made/linked.c"
+    LC_ALL=C $cc -std=c11 "$made/linked.c" "$lib" -o "$made/linked" 2>"$made/linked.log"
+}
+
+# Code from before there were kinds, which took a record's numbers by calls of these names, neither compiles nor links; by the new names it does both.
+for plain in read write search feed feed_all; do
+    old=lindenscoop_${plain}_raw new=lindenscoop_${plain}_numbers
+    is_declared "$new" && is_linked "$new" || { echo "test-c: there is no $new" >&2; exit 1; }
+    if is_declared "$old" || ! grep -q "$old.*undeclared\|undeclared.*$old" "$made/declared.log" \
+        || is_linked "$old" || ! grep -q "undefined.*$old" "$made/linked.log"; then
+        echo "test-c: code that takes a record's numbers by $old, and cannot know all their kinds, still compiles or links" >&2
+        exit 1
+    fi
+done
+
+# Code from before there were kinds, which took a number for one unit, does not compile; by the new names it does.
+for pair in fraction_value:fraction_units latitude:latitude_units longitude:longitude_units altitude:altitude_metres; do
+    old=${pair%:*} new=${pair#*:}
+    for name in "$old" "$new"; do
+        printf '#include "lindenscoop.h"\nint main(void) { lindenscoop_record r = {0}; return r.%s != 0; }\n' "$name" >"$made/$name.c"
+    done
+    $cc -std=c11 -fsyntax-only -I$include "$made/$new.c"
+    if LC_ALL=C $cc -std=c11 -fsyntax-only -I$include "$made/$old.c" 2>"$made/$old.log" || ! grep -q "no member named '$old'" "$made/$old.log"; then
+        echo "test-c: code that takes $old for one unit still compiles" >&2
+        exit 1
+    fi
+done
+
 $cc -O2 -std=c99 $warn -I$include bindings/c/examples/heard_csv.c "$lib" -o "$made/heard_csv"
-for form in 1 2 3 4 5 6 7 10; do
+for form in 1 2 3 4 5 6 7 10 12; do
     log=tests/csv/form-$form
     if [ -n "${REFERENCE:-}" ]; then
         scripts/expect-csv.sh "$REFERENCE" $form "$log.log" | cmp - "$log.csv"
@@ -46,7 +87,7 @@ for form in 1 2 3 4 5 6 7 10; do
     "$made/heard_csv" $form "$log.log" | cmp - "$log.csv"
     "$made/heard_csv" $form < "$log.log" | cmp - "$log.csv"
 done
-for form in 0 8 9 11 15 05 010 100 sat ''; do
+for form in 0 8 9 11 15 05 010 012 100 sat rmc ''; do
     if "$made/heard_csv" "$form" samples/standard.log >"$made/other.csv" 2>"$made/other.log" \
         || ! grep -q 'refused with 1:' "$made/other.log" || [ -s "$made/other.csv" ]; then
         echo "test-c: heard_csv takes \"$form\" for a form" >&2

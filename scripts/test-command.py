@@ -6,8 +6,10 @@ somebody asks why a log is silent, somebody tests a recorder without a clock; an
 """
 import calendar
 import csv
+import functools
 import io
 import json
+import operator
 import os
 import pathlib
 import pty
@@ -22,7 +24,7 @@ import time
 ROOT = pathlib.Path(__file__).resolve().parent.parent
 # Name and length of each form that can be listened for.
 FORMS = {1: ("standard", 32), 2: ("capture", 31), 3: ("erlangen", 66), 4: ("spa", 32), 5: ("racal", 16), 6: ("sysplex", 16), 7: ("computime", 24),
-         10: ("sat", 29)}
+         10: ("sat", 29), 12: ("rmc", 65)}
 A = b"\x02D:01.01.24;T:1;U:12.00.00;  U \x03"
 BLOCK = (b"date=24-01-01\ntime=12:00:00\nfraction=-\nchannel=-\nsync=yes\nfix=yes\nutc=yes\nsummer=no\nchange=no\nleap=no\n"
          b"offset=-\nposition=-\ndsp=-\nlsp=-\n\n")
@@ -32,6 +34,9 @@ COMPUTIME = b"T:24:01:01:01:12:00:00\r\n"
 SAT = b"\x0201.01.24/1/12:00:00UTC   \r\n\x03"
 SAT_BLOCK = (b"date=24-01-01\ntime=12:00:00\nfraction=-\nchannel=-\nsync=yes\nfix=-\nutc=yes\nsummer=no\nchange=no\nleap=-\n"
              b"offset=-\nposition=-\ndsp=-\nlsp=-\n\n")
+RMC = b"$GPRMC,220952.00,A,4742.21,N,01200.75,E,0.0,0.0,181223,0.0,E*5A\r\n"
+RMC_BLOCK = (b"date=23-12-18\ntime=22:09:52\nfraction=00\nchannel=-\nsync=yes\nfix=-\nutc=-\nsummer=-\nchange=-\nleap=-\n"
+             b"offset=-\nposition=+4742.21 +01200.75\ndsp=-\nlsp=-\n\n")
 ERLANGEN = b"\x0201.01.24; 1; 13:00:00; +00:00; #*     ;  0.0000N   0.0000E    0m\x03"
 FRAMED = b'{"date":"2024-01-01","time":"00:00:00","sync":true,"summer":false,"offset":"%s","dsp":false,"lsp":false}'
 SECONDS = 10
@@ -109,7 +114,7 @@ def test_usage():
              ["export", "--form", "1", "-"], ["export", "--json", "--csv", "--form", "1", "-"], ["export", "--csv", "--form", "1"],
              ["why"], ["why", "-", "-"], ["write"], ["write", "racl"], ["write", "15"], ["listen", "-", "--form", "11"],
              ["listen", "-", "--form", "block"], ["export", "--csv", "--form", "8", "-"], ["export", "--csv", "--form", "c37118", "-"],
-             ["write", "010"]]
+             ["write", "010"], ["write", "012"], ["listen", "-", "--form", "gprmc"]]
     for words in wrong:
         status, out, error = run(*words)
         check("usage of %s" % words, status == 2 and out == b"" and "--help" in error, (status, error))
@@ -133,6 +138,9 @@ def test_listen_pipe():
     for form in ["sat", "10", "SAT"]:
         status, out, error = run("listen", "-", "--form", form, given=b"D:0\x02" + SAT + SAT[:28])
         check("listen to a pipe for " + form, (status, out) == (0, SAT_BLOCK) and "end bytes=61 telegrams=1" in error, (status, error))
+    for form in ["rmc", "12", "RMC"]:
+        status, out, error = run("listen", "-", "--form", form, given=b"$GP" + RMC + RMC[:64])
+        check("listen to a pipe for " + form, (status, out) == (0, RMC_BLOCK) and "end bytes=132 telegrams=1" in error, (status, error))
     status, out, error = run("listen", "-", "--form", "racal", given=A)
     check("nothing heard", (status, out) == (1, b"") and "telegrams=0" in error, (status, error))
 
@@ -149,7 +157,7 @@ def test_listen_like_heard():
 
 def test_listen_port():
     """A pseudo-terminal in its default mode: ETX would be the interrupt key, CR become LF."""
-    for name, string in [("standard", A), ("racal", RACAL), ("computime", COMPUTIME), ("sat", SAT)]:
+    for name, string in [("standard", A), ("racal", RACAL), ("computime", COMPUTIME), ("sat", SAT), ("rmc", RMC)]:
         clock, port = pty.openpty()
         before = termios.tcgetattr(port)
         process = start("listen", os.ttyname(port), "--form", name, "--baud", "9600")
@@ -174,7 +182,7 @@ def test_listen_port():
 def test_export_port():
     clock, port = pty.openpty()
     process = start("export", "--csv", "--form", "racal", os.ttyname(port))
-    wait_for(process.stdout, b"lsp\n")
+    wait_for(process.stdout, b"longitude_minutes\n")
     until = time.monotonic() + SECONDS
     while termios.tcgetattr(port)[3] != 0 and time.monotonic() < until:
         time.sleep(0.01)
@@ -292,7 +300,8 @@ def as_cell(key, value):
         return ""
     if isinstance(value, bool):
         return "yes" if value else "no"
-    return "%.4f" % value if key in ("latitude", "longitude") else str(value)
+    digits = {"latitude": 4, "longitude": 4, "latitude_minutes": 2, "longitude_minutes": 2}.get(key)
+    return str(value) if digits is None else "%.*f" % (digits, value)
 
 
 def test_export():
@@ -312,15 +321,21 @@ def test_export_absent():
     status, out, _ = run("export", "--json", "--form", "racal", "-", given=b".." + RACAL)
     line = json.loads(out)
     sent = {"place": 2, "date": "2000-02-29", "time": "00:00:00"}
-    check("absent is null", len(line) == 18 and all(line[key] == sent.get(key) for key in line), out)
+    check("absent is null", len(line) == 20 and all(line[key] == sent.get(key) for key in line), out)
     _, out, _ = run("export", "--csv", "--form", "racal", "-", given=b".." + RACAL)
-    check("absent is an empty cell", out.splitlines()[1] == b"2,2000-02-29,,00:00:00" + b"," * 14, out)
+    check("absent is an empty cell", out.splitlines()[1] == b"2,2000-02-29,,00:00:00" + b"," * 16, out)
     line = json.loads(run("export", "--json", "--form", "sat", "-", given=SAT.replace(b"UTC   ", b"CEST#!"))[1])
     sent = {"place": 0, "date": "2024-01-01", "time": "12:00:00", "sync": False, "utc": False, "summer": True, "change": True}
-    check("what a SAT string carries", len(line) == 18 and all(line[key] == sent.get(key) for key in line), line)
+    check("what a SAT string carries", len(line) == 20 and all(line[key] == sent.get(key) for key in line), line)
+    line = json.loads(run("export", "--json", "--form", "rmc", "-", given=RMC)[1])
+    sent = {"place": 0, "date": "2023-12-18", "time": "22:09:52", "fraction": "0.00", "sync": True, "latitude_minutes": 2862.21,
+            "longitude_minutes": 720.75}
+    check("what an RMC string carries", len(line) == 20 and all(line[key] == sent.get(key) for key in line), line)
     line = json.loads(run("export", "--json", "--form", "3", "-", given=ERLANGEN)[1])
-    zero = [line[key] for key in ("offset", "latitude", "longitude", "altitude", "utc")]
-    check("zero that was sent", zero == ["+00:00", 0, 0, 0, None], line)
+    zero = [line[key] for key in ("offset", "latitude", "longitude", "altitude", "utc", "latitude_minutes", "longitude_minutes")]
+    check("zero that was sent", zero == ["+00:00", 0, 0, 0, None, None, None], line)
+    out = run("export", "--csv", "--form", "12", "-", given=rmc(b"4742.21", b"0000.00"))[1]
+    check("zero that was sent in minutes", out.splitlines()[1].endswith(b",,0.00,720.75"), out)
 
 
 def test_export_pieces():
@@ -412,8 +427,9 @@ def even_parity(given):
 
 def test_why():
     why("heard", A * 2, "1 standard   strings heard: 2\n", "5 racal      strings heard: 0\n", status=0)
-    why("empty file", b"", "the file is empty", "\n   7 computime  strings heard: 0\n  10 sat        strings heard: 0\n")
-    why("sum", b">900WD:24-01-01 12.00;00.000:00\r", "1 near miss", "refused with 6: the SPA sum", "at byte 29, its byte 29: in the checksum")
+    why("empty file", b"", "the file is empty", "\n  10 sat        strings heard: 0\n  12 rmc        strings heard: 0\n")
+    why("sum", b">900WD:24-01-01 12.00;00.000:00\r", "1 near miss", "refused with 6: the SPA or RMC sum", "at byte 29, its byte 29: in the checksum",
+        "\"00\"; the bytes have the sum 3A")
     why("weekday", b".." + A.replace(b"T:1", b"T:2"), "refused with 5: two parts disagree", "begins at byte 2 and fails at byte 16", "the weekday")
     why("weekday of erlangen", ERLANGEN.replace(b"; 1;", b"; 2;"), "refused with 5", "the weekday, which is \"2\"")
     why("second 60 of erlangen", ERLANGEN.replace(b"00:00; +", b"00:60; +"), "refused with 5", "the letter of second 60")
@@ -461,9 +477,41 @@ def test_why_sat():
     why("SAT from a screen", (SAT * 3).replace(b"\x02", b"<STX>").replace(b"\r\n\x03", b"<CR><LF><ETX>"), "spelled out", "strings of sat heard: 3")
 
 
+def rmc(old, new):
+    """The RMC string with some bytes replaced, and its sum made right again."""
+    head, tail = RMC.replace(old, new).split(b"*")
+    return head + b"*%02X" % functools.reduce(operator.xor, head[1:]) + tail[2:]
+
+
+def test_why_rmc():
+    """What befalls RMC strings, and receivers that send them otherwise."""
+    why("RMC heard", RMC * 2, "12 rmc        strings heard: 2\n", status=0)
+    why("another talker", rmc(b"GP", b"GN") * 3, "3 refused with 3", "its byte 2: 'N' instead of 'P'", "of another talker than GP", "Only $GPRMC is taken",
+        "strings of rmc heard: 3")
+    why("spaces for zeros", rmc(b",01200", b", 1200"), "space in the degrees of longitude", "manual 002 speaks of spaces", "strings of rmc heard: 1")
+    why("sum of RMC", RMC.replace(b"*5A", b"*00"), "refused with 6", "in the checksum, which is \"00\"; the bytes have the sum 5A")
+    why("60 minutes", rmc(b"4742", b"4760"), "refused with 4", "in the minutes of latitude, which is \"60.21\"; a degree has 60 minutes")
+    why("beyond 180 degrees", rmc(b"01200", b"18000"), "refused with 4", "in the minutes of longitude, which is \"00.75\"; behind the last degree")
+    why("S on a zero", rmc(b"4742.21,N", b"0000.00,S"), "refused with 5", "in north or south, which is \"S\"; on a zero it is 'N'")
+    why("a speed", rmc(b"E,0.0", b"E,1.5"), "refused with 3", "RMC strings of another layout: 1", "65 bytes: speed \"1.5\" instead of 0.0")
+    why("more digits", b".." + rmc(b"4742.21", b"4742.2100"), "refused with 3", "begins at byte 2 and has 67 bytes: latitude \"4742.2100\" instead of bbbb.bb",
+        "65 bytes, as a Meinberg")
+    other = b"$GNRMC,053232.438,A,3114.8789,N,12135.2442,E,0.26,167.42,020315,,,A*70\r\n"
+    why("another receiver", other * 2, "of another layout: 2; the first begins at byte 0 and has 72 bytes: talker \"GN\" instead of GP, time \"053232.438\"",
+        "variation \"\" instead of 0.0", "\"A\" behind these")
+    why("RMC beside another", RMC + other, "strings heard: 1\n", "of another layout: 1; the first begins at byte 65", status=0)
+    why("other NMEA strings", b"$GPZDA,221023.00,18,12,2023,00,00*61\r\n" * 3, "no RMC string among them", "switch RMC on")
+    for name, given in (("right", RMC), ("a sum wrong", RMC.replace(b"*5A", b"*00")), ("damaged", RMC + RMC.replace(b"4742", b"47x2"))):
+        check("why: no hint where there is none to give: " + name, b"hint:" not in run("why", "-", given=given)[1], run("why", "-", given=given)[1])
+    why("RMC with CR removed", (RMC * 3).replace(b"\r", b""), "no CR left", "strings of rmc heard: 3")
+    why("RMC with CR become LF", (RMC * 3).replace(b"\r", b"\n"), "not raw", "strings of rmc heard: 3")
+    why("RMC with parity", even_parity(RMC * 3), "parity", "strings of rmc heard: 3")
+    why("RMC from a screen", (RMC * 3).replace(b"\r\n", b"<CR><LF>"), "spelled out", "strings of rmc heard: 3")
+
+
 def test_why_tells_forms_apart():
-    """Standard, Erlangen and SAT strings all begin with STX; of each the form is told, and no other is near."""
-    strings = {"standard": A, "erlangen": ERLANGEN, "sat": SAT}
+    """Standard, Erlangen and SAT strings all begin with STX, and RMC strings have digits as they do; of each the form is told, no other is near."""
+    strings = {"standard": A, "erlangen": ERLANGEN, "sat": SAT, "rmc": RMC}
     for name, string in strings.items():
         status, out, _ = run("why", "-", given=string * 3)
         heard = [line.split() for line in out.decode().splitlines() if "strings heard" in line]
@@ -547,6 +595,31 @@ def test_write_sat():
     check("write SAT in utc and summer", (status, out) == (1, b"") and "sat refused with 7" in error, (status, out, error))
 
 
+def test_write_rmc():
+    """The kinds that the form carries are asked for, and none is made of another."""
+    head = b'{"date":"2023-12-18","time":"22:09:52","sync":true,'
+    kinds = b'"fraction":"0.00","latitude_minutes":2862.21,"longitude_minutes":720.75}'
+    for name in ("rmc", "12", "RMC"):
+        status, out, error = run("write", name, given=head + kinds)
+        check("write " + name, (status, out) == (0, RMC), (status, out, error))
+    south = kinds.replace(b"2862.21", b"-0.01").replace(b"720.75", b"-10800").replace(b"0.00", b"0.99")
+    out = run("write", "rmc", given=head.replace(b"true", b"false") + south)[1]
+    wanted = rmc(b".00,A,4742.21,N,01200.75,E", b".99,V,0000.01,S,18000.00,W")
+    check("write RMC in the south, without sync", out == wanted, out)
+    degrees = b'"latitude":47.35,"longitude":8.0625,"altitude":431}'
+    for other in (b'"fraction":"0.000",' + kinds.split(b",", 1)[1], b'"fraction":"0.00",' + degrees, b'"fraction":"0.00"}', kinds.split(b",", 1)[1]):
+        status, out, error = run("write", "rmc", given=head + other)
+        check("write RMC of %s" % other, (status, out) == (1, b"") and "rmc refused with 8" in error, (status, out, error))
+    for form in ("spa", "capture"):
+        status, out, error = run("write", form, given=head + b'"channel":0,' + kinds)
+        check("hundredths are not written as " + form, (status, out) == (1, b"") and "refused with 8" in error, (status, out, error))
+    for latitude in (b"5400.01", b"99999"):
+        status, out, error = run("write", "rmc", given=head + kinds.replace(b"2862.21", latitude))
+        check("beyond the pole: %s" % latitude, (status, out) == (1, b"") and "rmc refused with 7" in error, (status, out, error))
+    block = run("write", "block", given=head + kinds)[1]
+    check("a block of minutes", block + b"\n" == RMC_BLOCK, block)
+
+
 def test_write_refused():
     good = b'{"date":"2024-02-29","time":"12:00:00"}'
     wrong = {
@@ -556,7 +629,14 @@ def test_write_refused():
         b'{"date":"2024-02-29","time":"12:00:00","snyc":true}': b"no field \"snyc\"", b'{"time":"12:00:00","time":"12:00:01"}': b"twice",
         b'{"time":"12:00:00","date":"2024-02-29","day_of_year":60}': b"one of them must be null", good + b"}": b"nothing more",
         b'{"time":"12:00:00","latitude":1.5}': b"together", b'{"time":"12:00:00","longitude":1.5,"altitude":1}': b"together",
-        b'{"time":"12:00:00","fraction":"0.12"}': b"3 or 7 digits",
+        b'{"time":"12:00:00","fraction":"0.1"}': b"2, 3 or 7 digits", b'{"time":"12:00:00","fraction":"0.1234"}': b"2, 3 or 7 digits",
+        b'{"time":"12:00:00","latitude_minutes":1.5}': b"must be there together, or both be null",
+        b'{"time":"12:00:00","latitude_minutes":null,"longitude_minutes":1.5}': b"must be there together, or both be null",
+        b'{"time":"12:00:00","latitude":1,"longitude":1,"altitude":1,"latitude_minutes":1,"longitude_minutes":1}': b"are both there; give the kind",
+        b'{"time":"12:00:00","latitude_minutes":1.005,"longitude_minutes":1}': b"two digits",
+        b'{"time":"12:00:00","altitude":1,"latitude_minutes":1,"longitude_minutes":1}': b"together",
+        b'{"time":"12:00:00","latitude_minutes":"1","longitude_minutes":1}': b"must be a number or null",
+        b'{"time":"12:00:00","latitude_minutes":1,"longitude_minutes":100000}': b"no minutes of arc",
         b'{"time":"12:00:00","offset":"01:00"}': b"offset", b'{"time":"12:00:00","sync":1}': b"true, false or null",
         b'{"time":"12:00:00","channel":-1}': b"whole number", b'{"time":"12:00:00","latitude":1.23456,"longitude":1,"altitude":1}': b"four digits",
         b'{"time":"12:00:00","x":"\xff"}': b"UTF-8", b'{"time":"12:00:00","position":[1]}': b"expected a string",

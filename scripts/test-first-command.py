@@ -194,16 +194,19 @@ class Trial:
     def test_other_forms(self):
         """Forms that the library has and this program does not take: what is said must help."""
         others = "8", "9", "11", "frame", "block", "c37118", "C37118"
+        commanded = {word: (number, name) for number, name in ((10, "sat"), (12, "rmc")) for word in (str(number), name, name.upper())}
         with self.place() as place:
-            told = {word: place.run(word, given=b"bytes") for word in ("10", "sat", "SAT", *others, "0", "15", "radio")}
+            told = {word: place.run(word, given=b"bytes") for word in (*others, *commanded, "0", "15", "radio")}
             for word, (status, out, error) in told.items():
                 self.same((status, out), (2, b""), f"form {word}")
-                if word in ("10", "sat", "SAT"):
-                    for wanted in ("SAT (form 10)", "lindenscoop listen FILE --form sat", "lindenscoop export --csv --form sat FILE", "\"The command\""):
+                if word in commanded:
+                    number, name = commanded[word]
+                    for wanted in (f"{name.upper()} (form {number})", f"lindenscoop listen FILE --form {name},", f"lindenscoop export --csv --form {name} FILE",
+                                   "\"The command\""):
                         self.check(wanted in error, f"form {word}: {wanted} is not said: {error}")
                 else:
                     wanted = f"form {word} is not listened for" if word in others else f"there is no form \"{word}\""
-                    self.check(wanted in error and "or 1 to 7" in error and "sat (10)" in error, f"form {word}: {error}")
+                    self.check(wanted in error and "or 1 to 7" in error and "sat (10) and rmc (12)" in error, f"form {word}: {error}")
             self.same(place.called(), [], "rt was called for a form that is not taken")
         self.check("\n## The command\n" in (ROOT / "README.md").read_text(encoding="utf-8"), "README.md has no section that is named")
 
@@ -227,7 +230,7 @@ class Trial:
             for word in ("--help", "-h"):
                 status, out, error = place.run(word)
                 self.same((status, error), (0, ""), word)
-                for wanted in (b"FORM [FILE]", b"lindenscoop listen FILE --form sat", b"standard input", b"minutes", b"status: 0", b" 1 not proved",
+                for wanted in (b"FORM [FILE]", b"SAT and RMC strings", b"lindenscoop listen FILE --form sat", b"standard input", b"minutes", b"status: 0", b" 1 not proved",
                                b" 2 a wrong", b" 3 there is", b" 4 the"):
                     self.check(wanted in out, f"{word} does not say {wanted}")
 
@@ -432,12 +435,16 @@ FAULTS = [
     ("|| echo run >&3", "|| true"),
     ("|| echo write >&3", "|| true"),
     ("grep -v ", "grep "),
-    ("10 | [sS][aA][tT]) fail", "10 | sat) fail"),
-    ("10 | [sS][aA][tT]) fail", "sat | SAT) fail"),
+    ("10 | [sS][aA][tT])", "10 | sat)"),
+    ("10 | [sS][aA][tT])", "sat | SAT)"),
+    ("12 | [rR][mM][cC])", "12 | rmc)"),
+    ("12 | [rR][mM][cC])", "rmc | RMC)"),
+    ("for_the_command 12 RMC rmc", "for_the_command 12 RMC sat"),
+    ("for_the_command 10 SAT sat", "for_the_command 12 SAT sat"),
     ("8 | frame | 9 | block |", "8 | frame | block |"),
     ("| 11 | [cC]37118) fail", "| [cC]37118) fail"),
     ("| 11 | [cC]37118) fail", "| 11 | c37118) fail"),
-    ('"lindenscoop listen FILE --form sat, or', '"or'),
+    ('"lindenscoop listen FILE --form $3, or', '"or'),
     ("\nlindenscoop listen FILE --form sat\n", "\n"),
 ]
 

@@ -20,11 +20,14 @@ import traceback
 ROOT = pathlib.Path(__file__).resolve().parent.parent
 MARKS = {"<SOH>": b"\x01", "<STX>": b"\x02", "<ETX>": b"\x03", "<LF>": b"\n", "<CR>": b"\r"}
 # the forms that search and listener take, and by their names those that the program heard takes, 1 to 7
-SERIAL = {1, 2, 3, 4, 5, 6, 7, 10}
+SERIAL = {1, 2, 3, 4, 5, 6, 7, 10, 12}
 HEARD = "standard capture erlangen spa racal sysplex computime".split()
 # shown by a digit for each byte
 FRAMES = 8, 11
 LEFT_OUT = "[..]"
+KINDS = "Three kinds of fraction, two of position"
+# kinds of a fraction, by their digits
+DIGITS = {"hundredths": 2, "thousandths": 3, "ten-millionths": 7}
 
 
 def section(text, heading):
@@ -56,10 +59,33 @@ def read_again(form, data):
 def carried(form, data):
     """What a string carries beside time, in the words of the table."""
     record = ls.read(form, data)
-    words = {name for name in ("channel", "sync", "fix", "utc", "summer", "change", "leap", "offset", "position", "dsp", "lsp")
-             if getattr(record, name) is not None}
-    words |= {{3: "thousandths", 7: "ten-millionths"}[record.fraction.digits]} if record.fraction else set()
+    words = {name for name in ("channel", "sync", "fix", "utc", "summer", "change", "leap", "offset", "dsp", "lsp") if getattr(record, name) is not None}
+    words |= {kind for kind, digits in DIGITS.items() if record.fraction and len(str(record.fraction)) == 2 + digits}
+    words |= {"position in minutes" if isinstance(record.position, ls.PositionInMinutes) else "position"} if record.position else set()
     return words | {"full date" if isinstance(record.date, ls.Date) else "day of year"}
+
+
+def block_of(record):
+    """The block of a record, or the number of the refusal."""
+    try:
+        return ls.write(9, record)
+    except ls.Refused as refused:
+        return refused.number
+
+
+def fraction(value, digits):
+    return ls.Hundredths(value) if digits == 2 else ls.Fraction(value, digits)
+
+
+def edges(kind, numbers):
+    """The last position that a kind has, then positions beyond it."""
+    if kind == "position in minutes":
+        latitude, longitude = numbers[-2:]
+        places = (latitude, longitude), (latitude + 1, 0), (0, longitude + 1), (-latitude - 1, 0), (0, -longitude - 1)
+        return (ls.Record(position=ls.PositionInMinutes(*place)) for place in places)
+    latitude, longitude, altitude = numbers[0] * 10000, numbers[1] * 10000, numbers[-1]
+    places = (latitude, longitude, altitude), (latitude + 1, 0, 0), (0, longitude + 1, 0), (0, 0, altitude + 1)
+    return (ls.Record(position=ls.Position(*place)) for place in places)
 
 
 @functools.lru_cache(maxsize=None)
@@ -138,6 +164,34 @@ class Trial:
             self.same(read_again(9, b"-" * length), 2, f"a block of {length} bytes")
         for length in (shortest, longest):
             self.same(read_again(9, b"-" * length), 3, f"{length} bytes that are no block")
+
+    def test_kinds(self):
+        """The ranges of the kinds and the forms that carry them."""
+        table = {row[0]: row[1:] for row in rows(section(self.text, KINDS))}
+        forms = {row[0]: row[4].split(", ") for row in rows(section(self.text, "The forms"))}
+        named = {**DIGITS, "position in degrees": 0, "position in minutes": 0}
+        self.same(list(table)[1:], list(named), "the kinds of the table")
+        for kind, digits in named.items():
+            word = "position" if kind == "position in degrees" else kind
+            self.same([form for form, words in forms.items() if word in words], [table[kind][2]], f"the form that carries {kind}")
+            numbers = [number(text) for text in re.findall(r"\d[\d,]*", table[kind][1])]
+            records = [ls.Record(fraction=fraction(numbers[-1] + over, digits)) for over in (0, 1)] if digits else list(edges(kind, numbers))
+            self.same([read_again(9, block_of(record)) for record in records[:1]], [block_of(records[0])], f"the last of {kind}")
+            self.same([block_of(record) for record in records[1:]], [7] * (len(records) - 1), f"beyond the last of {kind}")
+
+    def test_spellings(self):
+        """The kinds as the block and CSV spell them."""
+        text = section(self.text, KINDS)
+        fractions = re.findall(r"`(?:fraction=)?(\d+)`", text)
+        positions = re.findall(r"`(?:position=)?([+-]\d[^`]*)`", text)
+        self.same([len(spelled) for spelled in fractions], list(DIGITS.values()), "the digits of the fractions")
+        empty = block_of(ls.Record()).decode()
+        for key, spelled in [("fraction", text) for text in fractions] + [("position", text) for text in positions]:
+            block = empty.replace(f"{key}=-", f"{key}={spelled}").encode()
+            self.same(read_again(9, block), block, f"{key}={spelled}, read and written again")
+        minutes = [ls.read(9, empty.replace("position=-", f"position={spelled}").encode()).position for spelled in positions]
+        self.same([type(position) for position in minutes], [ls.Position, ls.PositionInMinutes], "the kinds of the positions")
+        self.same(re.findall(r"\((\d+\.\d\d) for the same\)", text), [f"{minutes[1].latitude_hundredths / 100:.2f}"], "the latitude in minutes")
 
     def test_commands(self):
         blocks = fenced(self.text, "console")
@@ -227,6 +281,12 @@ def faults(text):
     for row in section(text, "Sizes").splitlines():
         if re.match(r"\| .*\d", row):
             yield put(row, re.sub(r"(?<=\d)(?= \|$)", "0", row), f"the figure in {row}")
+    for row in section(text, KINDS).splitlines():
+        if re.match(r"\| .*\d", row):
+            yield put(row, re.sub(r"(?<=\d)(?=( m)? \| \d+ \|$)", "0", row), f"the range in {row}")
+            yield put(row, re.sub(r"\d+ \|$", "5 |", row), f"the form in {row}")
+    for old, new in (("`007`", "`07`"), ("`+4721.00", "`+4760.00"), ("+008.0625 0431`", "+008.0625`"), ("2841.00", "2821.00")):
+        yield put(old, new, f"{new} for {old}")
     yield put("time=23:59:51", "time=23:59:50", "another record")
     yield put("telegrams=18", "telegrams=19", "another count")
     yield put("57,2016", "58,2016", "another place")

@@ -8,7 +8,7 @@ printed=$(mktemp)
 empty=$(mktemp -d)
 trap 'rm -rf "$printed" "$empty"' EXIT
 logs=0
-for pair in 1:standard 2:capture 3:erlangen 4:spa 5:racal 6:sysplex 7:computime 10:sat; do
+for pair in 1:standard 2:capture 3:erlangen 4:spa 5:racal 6:sysplex 7:computime 10:sat 12:rmc; do
     logs=$((logs + 1))
     form=${pair%:*} name=${pair#*:}
     log=tests/csv/form-$form
@@ -34,7 +34,7 @@ for name in frame block c37118; do
     fails_with 'refused with 1' $example $name samples/standard.log
 done
 fails_with 'there is no form "radio"; the forms are standard (1), ' $example radio samples/standard.log
-fails_with 'sat (10), c37118 (11)' $example 15 samples/standard.log
+fails_with 'sat (10), c37118 (11), rmc (12)' $example 15 samples/standard.log
 fails_with "Make it with:  cd $(pwd -P) && rt staticlib lindenscoop" \
     env LINDENSCOOP_LIB_DIR="$empty" CARGO_TARGET_DIR="$empty" cargo build --quiet --offline -p lindenscoop
 echo "rust: errors say what to do"

@@ -13,7 +13,7 @@ _lindenscoop_words() {
 # The value of an option, or status 1 where the word before takes none.
 _lindenscoop_value() {
     case $1 in
-        --form) _lindenscoop_words 'standard capture erlangen spa racal sysplex computime sat' "$2" ;;
+        --form) _lindenscoop_words 'standard capture erlangen spa racal sysplex computime sat rmc' "$2" ;;
         --baud) _lindenscoop_words '300 600 1200 2400 4800 9600 19200 38400 57600 115200' "$2" ;;
         --framing) _lindenscoop_words '7E1 7E2 7N2 7O1 7O2 8E1 8E2 8N1 8N2 8O1 8O2' "$2" ;;
         --record | --to) _lindenscoop_files ;;
@@ -34,7 +34,7 @@ _lindenscoop_option() {
 # Write and simulate have the form as their first word; all else that is no option is a file.
 _lindenscoop_rest() {
     if [[ $1 == simulate || ($1 == write && $COMP_CWORD -eq 2) ]]; then
-        _lindenscoop_words 'standard capture erlangen spa racal sysplex computime frame block sat c37118' "$2"
+        _lindenscoop_words 'standard capture erlangen spa racal sysplex computime frame block sat c37118 rmc' "$2"
     else
         _lindenscoop_files
     fi

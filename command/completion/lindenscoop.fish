@@ -1,6 +1,6 @@
 # Completion of lindenscoop for fish. scripts/test-install.py compares its words with those that the command takes.
 
-set -l serial standard capture erlangen spa racal sysplex computime sat
+set -l serial standard capture erlangen spa racal sysplex computime sat rmc
 set -l all $serial frame block c37118
 set -l framings 7E1 7E2 7N2 7O1 7O2 8E1 8E2 8N1 8N2 8O1 8O2
 

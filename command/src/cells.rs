@@ -1,9 +1,9 @@
 //! A record as a row of CSV and as a line of JSON, with the columns of bindings/heard_csv.columns. An absent field is an empty cell, or null.
 
-use lindenscoop::{Date, Fraction, Record};
+use lindenscoop::{Date, Fraction, Position, Record};
 
 pub const COLUMNS: &str = include!("../../bindings/heard_csv.columns");
-const COUNT: usize = 17;
+const COUNT: usize = 19;
 
 /// What stands in a cell.
 #[derive(Clone, Copy)]
@@ -13,6 +13,8 @@ enum Cell {
     Number(u32),
     /// ten-thousandths
     Degrees(i32),
+    /// hundredths, of arc
+    Minutes(i32),
     Date(u32, u32, u32),
     Time(u32, u32, u32),
     Fraction(Fraction),
@@ -24,7 +26,33 @@ fn cell<T>(field: Option<T>, make: impl Fn(T) -> Cell) -> Cell {
     field.map_or(Cell::Absent, make)
 }
 
+/// Latitude and longitude in degrees with the altitude, and both in minutes; those of the kind that was not sent are absent.
+fn place(position: Option<Position>) -> ([Cell; 3], [Cell; 2]) {
+    let (mut degrees, mut minutes) = ([Cell::Absent; 3], [Cell::Absent; 2]);
+    match position {
+        None => {}
+        Some(Position::Degrees {
+            latitude,
+            longitude,
+            altitude,
+        }) => {
+            degrees = [
+                Cell::Degrees(latitude),
+                Cell::Degrees(longitude),
+                Cell::Number(altitude),
+            ]
+        }
+        Some(Position::Minutes {
+            latitude,
+            longitude,
+        }) => minutes = [Cell::Minutes(latitude), Cell::Minutes(longitude)],
+    }
+    (degrees, minutes)
+}
+
 fn cells(r: &Record) -> [Cell; COUNT] {
+    let ([latitude, longitude, altitude], [latitude_minutes, longitude_minutes]) =
+        place(r.position);
     let (date, day_of_year) = match r.date {
         None => (Cell::Absent, Cell::Absent),
         Some(Date::Full { year, month, day }) => (Cell::Date(year, month, day), Cell::Absent),
@@ -43,11 +71,13 @@ fn cells(r: &Record) -> [Cell; COUNT] {
         cell(r.change, Cell::Flag),
         cell(r.leap, Cell::Flag),
         cell(r.offset, Cell::Offset),
-        cell(r.position, |p| Cell::Degrees(p.latitude)),
-        cell(r.position, |p| Cell::Degrees(p.longitude)),
-        cell(r.position, |p| Cell::Number(p.altitude)),
+        latitude,
+        longitude,
+        altitude,
         cell(r.dsp, Cell::Flag),
         cell(r.lsp, Cell::Flag),
+        latitude_minutes,
+        longitude_minutes,
     ]
 }
 
@@ -69,19 +99,24 @@ fn three(parts: [u32; 3], between: u8) -> [u8; 8] {
     [a, b, between, c, d, between, e, f]
 }
 
+/// A number of hundredths or ten-thousandths, by its digits behind the point.
+fn angle(out: &mut Vec<u8>, value: i32, digits: usize) {
+    let (size, parts) = (value.unsigned_abs(), 10_u32.pow(digits as u32));
+    if value < 0 {
+        out.push(b'-');
+    }
+    number(out, (size / parts).into(), 1);
+    out.push(b'.');
+    number(out, (size % parts).into(), digits);
+}
+
 fn plain(out: &mut Vec<u8>, cell: Cell) {
     match cell {
         Cell::Absent => {}
         Cell::Flag(yes) => out.extend_from_slice(if yes { b"yes" } else { b"no" }),
         Cell::Number(value) => number(out, value.into(), 1),
-        Cell::Degrees(value) => {
-            if value < 0 {
-                out.push(b'-');
-            }
-            number(out, (value.unsigned_abs() / 10_000).into(), 1);
-            out.push(b'.');
-            number(out, (value.unsigned_abs() % 10_000).into(), 4);
-        }
+        Cell::Degrees(value) => angle(out, value, 4),
+        Cell::Minutes(value) => angle(out, value, 2),
         Cell::Date(year, month, day) => {
             out.extend_from_slice(b"20");
             out.extend_from_slice(&three([year, month, day], b'-'));
@@ -106,7 +141,7 @@ fn json(out: &mut Vec<u8>, cell: Cell) {
     match cell {
         Cell::Absent => out.extend_from_slice(b"null"),
         Cell::Flag(yes) => out.extend_from_slice(if yes { b"true" } else { b"false" }),
-        Cell::Number(_) | Cell::Degrees(_) => plain(out, cell),
+        Cell::Number(_) | Cell::Degrees(_) | Cell::Minutes(_) => plain(out, cell),
         Cell::Date(..) | Cell::Time(..) | Cell::Fraction(_) | Cell::Offset(_) => {
             out.push(b'"');
             plain(out, cell);
@@ -130,12 +165,13 @@ impl Keys {
     pub fn new() -> Keys {
         let mut names = COLUMNS.split(',');
         Keys(std::array::from_fn(|_| {
-            format!(",\"{}\":", names.next().expect("17 columns")).into_bytes()
+            let name = names.next().expect("each cell has a column");
+            format!(",\"{name}\":").into_bytes()
         }))
     }
 }
 
-/// The members behind the place: `,"date":..,"lsp":..`.
+/// The members behind the place: `,"date":..,"longitude_minutes":..`.
 pub fn json_members(out: &mut Vec<u8>, record: &Record, keys: &Keys) {
     for (key, cell) in keys.0.iter().zip(cells(record)) {
         out.extend_from_slice(key);

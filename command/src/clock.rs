@@ -4,22 +4,42 @@ use std::time::{SystemTime, UNIX_EPOCH};
 
 use lindenscoop::{Date, Form, Fraction, Position, Record, Refusal};
 
-/// Every field has a value, of the kind that the form carries; a clock in sync, at the place of the papers' example.
+/// The parts of a second, of the kind that the form carries.
+fn fraction(form: Form, nanoseconds: u32) -> Fraction {
+    match form {
+        Form::SPA => Fraction::Thousandths(nanoseconds / 1_000_000),
+        Form::RMC => Fraction::Hundredths(nanoseconds / 10_000_000),
+        _ => Fraction::TenMillionths(nanoseconds / 100),
+    }
+}
+
+/// The place of the papers' example, of the kind that the form carries.
+fn position(form: Form) -> Position {
+    match form {
+        Form::RMC => Position::Minutes {
+            latitude: 284_100,
+            longitude: 48_375,
+        },
+        _ => Position::Degrees {
+            latitude: 473_500,
+            longitude: 80_625,
+            altitude: 431,
+        },
+    }
+}
+
+/// Every field has a value, of the kind that the form carries; a clock in sync.
 pub fn record(form: Form, now: SystemTime) -> Result<Record, Refusal> {
     let since = now
         .duration_since(UNIX_EPOCH)
         .map_err(|_| Refusal::BadRecord)?;
     let (days, second) = (since.as_secs() / 86_400, (since.as_secs() % 86_400) as u32);
-    let fraction = match form {
-        Form::SPA => Fraction::Thousandths(since.subsec_millis()),
-        _ => Fraction::TenMillionths(since.subsec_nanos() / 100),
-    };
     Ok(Record {
         hour: second / 3600,
         minute: second / 60 % 60,
         second: second % 60,
         date: Some(date(days).ok_or(Refusal::BadRecord)?),
-        fraction: Some(fraction),
+        fraction: Some(fraction(form, since.subsec_nanos())),
         channel: Some(0),
         sync: Some(true),
         fix: Some(true),
@@ -28,11 +48,7 @@ pub fn record(form: Form, now: SystemTime) -> Result<Record, Refusal> {
         change: Some(false),
         leap: Some(false),
         offset: Some(0),
-        position: Some(Position {
-            latitude: 473_500,
-            longitude: 80_625,
-            altitude: 431,
-        }),
+        position: Some(position(form)),
         dsp: Some(false),
         lsp: Some(false),
     })
@@ -94,6 +110,20 @@ mod tests {
             assert_eq!(date(days), None);
         }
         assert_eq!(date(u64::MAX), None);
+    }
+
+    /// A string can be made of it in every form, and the parts of a second are cut off, not rounded up.
+    #[test]
+    fn kinds() {
+        for form in Form::ALL {
+            let now = UNIX_EPOCH + Duration::new(1_709_251_199, 999_999_999);
+            let record = record(*form, now).unwrap();
+            let mut out = Vec::new();
+            assert!(lindenscoop::append(*form, &record, &mut out).is_ok());
+            let fraction = record.fraction.unwrap();
+            let nines = 10_u32.pow(fraction.digits() as u32) - 1;
+            assert_eq!((record.second, fraction.value()), (59, nines), "{form}");
+        }
     }
 
     #[test]

@@ -37,13 +37,17 @@ mod tests {
 
     #[test]
     fn no_string_is_left() {
-        // of 31 and of 29 bytes, so that every way comes to every place
-        let strings: [(Form, &[u8]); 2] = [
+        // of 31, 29 and 65 bytes, so that every way comes to every place
+        let strings: [(Form, &[u8]); 3] = [
             (Form::CAPTURE, b"CH0 01.01.24 12:00:00.0000000\r\n"),
             (Form::SAT, b"\x0201.01.24/1/12:00:00UTC   \r\n\x03"),
+            (
+                Form::RMC,
+                b"$GPRMC,120000.00,A,4721.00,N,00803.75,E,0.0,0.0,010124,0.0,E*54\r\n",
+            ),
         ];
         for (form, string) in strings {
-            for number in 1..200 {
+            for number in 1..=4 * string.len() as u64 {
                 let bytes = damaged(string, number, |bytes| search(form, bytes, 0).is_ok());
                 assert!(search(form, &bytes, 0).is_err(), "{bytes:?}");
             }

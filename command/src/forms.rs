@@ -63,22 +63,31 @@ mod tests {
         assert_eq!(named(forms.into_iter().take(1)), "spa");
         assert_eq!(listed(forms.into_iter()), "spa (4), racal (5), sat (10)");
         let numbers: Vec<u32> = serial_forms().map(u32::from).collect();
-        assert_eq!(numbers, [1, 2, 3, 4, 5, 6, 7, 10]);
+        assert_eq!(numbers, [1, 2, 3, 4, 5, 6, 7, 10, 12]);
     }
 
     #[test]
     fn words() {
-        for word in ["sat", "SAT", "10"] {
-            assert_eq!(any(word).unwrap(), Form::SAT);
-            assert_eq!(serial(word).unwrap(), Form::SAT);
+        let names = [
+            (Form::SAT, ["sat", "SAT", "10"]),
+            (Form::RMC, ["rmc", "RMC", "12"]),
+        ];
+        for (form, words) in names {
+            for word in words {
+                assert_eq!(any(word).unwrap(), form);
+                assert_eq!(serial(word).unwrap(), form);
+            }
         }
         for word in ["8", "9", "11", "frame", "block", "c37118", "C37118"] {
             assert!(any(word).is_ok());
-            assert!(serial(word).unwrap_err().words().ends_with("sat (10)"));
+            let failure = serial(word).unwrap_err();
+            assert!(failure.words().ends_with("sat (10), rmc (12)"), "{word}");
         }
-        for word in ["", "0", "15", "010", "011", "sat ", "satt", "C37.118"] {
+        for word in [
+            "", "0", "15", "010", "012", "sat ", "satt", "C37.118", "GPRMC",
+        ] {
             let failure = any(word).unwrap_err();
-            assert!(failure.words().ends_with("sat (10), c37118 (11)"), "{word}");
+            assert!(failure.words().ends_with("c37118 (11), rmc (12)"), "{word}");
         }
     }
 }

@@ -13,8 +13,8 @@ A field that was not sent is absent, never 0; a damaged string is refused.
 Each has its own --help. lindenscoop --version prints the version.
 
 Forms, by name or number: standard (1), capture (2), erlangen (3), spa (4), racal (5),
-sysplex (6), computime (7), sat (10); write and simulate also take frame (8), block (9) and
-c37118 (11).
+sysplex (6), computime (7), sat (10), rmc (12); write and simulate also take frame (8),
+block (9) and c37118 (11).
 
 Exit status: 0 heard (or written), 1 nothing heard, 2 a wrong call, 3 a read or write failed.
 ";
@@ -28,8 +28,8 @@ Ctrl-C ends it; the counts of bytes and telegrams come on standard error.
 A serial port is set raw, with this speed and framing, and put back at the end:
   --baud N        bits a second, 19200 if not given
   --framing DPS   data bits 7 or 8, parity N, E or O, stop bits 1 or 2; 8N1 if not given
-  --form FORM     standard, capture, erlangen, spa, racal, sysplex, computime, sat,
-                  or 1 to 7 and 10
+  --form FORM     standard, capture, erlangen, spa, racal, sysplex, computime, sat, rmc,
+                  or 1 to 7, 10 and 12
   --record FILE   keeps the bytes as they came in a new file, for `lindenscoop why`
 
 A file or pipe is read to its end; - is standard input.
@@ -48,14 +48,16 @@ A field that was not sent is null in JSON and an empty cell in CSV, never 0.
 
   --json          an object to a line: {\"place\":0,\"date\":\"2024-01-01\",..}
   --csv           a line of names, then a row for each record
-  --form FORM     standard, capture, erlangen, spa, racal, sysplex, computime, sat,
-                  or 1 to 7 and 10
+  --form FORM     standard, capture, erlangen, spa, racal, sysplex, computime, sat, rmc,
+                  or 1 to 7, 10 and 12
   --baud, --framing   where a file is a serial port, as for listen
 
 Dates are year-month-day, time is as the clock sent it, offset is hours:minutes of local
 time minus UTC, latitude and longitude are degrees, north and east positive, altitude is
-metres. A fraction has 3 or 7 digits, as it was sent. With several files each line begins
-with the file's name. `lindenscoop write` makes the strings of the JSON lines again.
+metres. A position that was sent in minutes, as by rmc, stands in latitude_minutes and
+longitude_minutes, in minutes of arc (2841.00 is 47 degrees 21 minutes), and is not turned
+into degrees. A fraction has 2, 3 or 7 digits, as it was sent. With several files each line
+begins with the file's name. `lindenscoop write` makes the strings of the JSON lines again.
 
 Exit status: 0 heard, 1 nothing heard, 2 a wrong call, 3 a read or write failed.
 ";
@@ -67,8 +69,8 @@ Explains why nothing is heard in a file. It tries each form that can be listened
 and says how many strings were heard, which were nearly right, with what number they were
 refused, what it means, and at which byte they fail. Then it gives hints on what happened
 to the recording: a port that was not raw, parity bits, a hex dump, converted ends of line,
-zones in German words, an empty file. A hint says how many strings are heard once the
-damage is undone.
+zones in German words, RMC strings of other receivers, an empty file. A hint says how many
+strings are heard once the damage is undone.
 
 The first 16 MiB of a longer file are looked at. Bytes are counted from 0.
 
@@ -83,14 +85,17 @@ Makes the strings of JSON lines as `lindenscoop export --json` prints them, and 
 one behind the other to standard output. Without a file it reads standard input.
 
   FORM   standard, capture, erlangen, spa, racal, sysplex, computime, frame, block, sat,
-         c37118, or 1 to 11
+         c37118, rmc, or 1 to 12
 
 frame and c37118 are one frame with two rules for its sign: 1 for an offset above zero in
 frame (IEEE 1344), below zero in c37118 (IEEE C37.118). A frame does not tell its rule.
 
 A key that is null or not there is an absent field; time must be there. place and file are
-passed over. A line that is no record, or that the form cannot carry, is refused with its
-number and the reason, and the other lines are written.
+passed over. A fraction and a position must be of the kind that the form carries: 2 digits
+and latitude_minutes, longitude_minutes for rmc; 3 digits for spa, 7 for capture; latitude,
+longitude, altitude for erlangen. None is turned into another. A line that is no record, or
+that the form cannot carry, is refused with its number and the reason, and the other lines
+are written.
 
   echo '{\"date\":\"2024-02-29\",\"time\":\"12:00:00\"}' | lindenscoop write racal
 
@@ -113,7 +118,7 @@ second, to test a recorder without a clock. They go to standard output, or:
   --count N       ends after N strings, damaged ones included
   --interval S    seconds between strings, 1 if not given; 0 sends without a pause
   FORM            standard, capture, erlangen, spa, racal, sysplex, computime, frame, block,
-                  sat, c37118, or 1 to 11
+                  sat, c37118, rmc, or 1 to 12
 
 Ctrl-C ends it; the counts come on standard error. lost= counts strings for which a
 pseudo-terminal that nobody reads had no room.

@@ -2,10 +2,10 @@
 
 use lindenscoop::{read, telegrams, Form};
 
-use crate::{forms, repairs};
+use crate::{forms, repairs, rmc};
 
-/// Hints on bytes in which so many strings of each form were heard.
-pub fn hints(bytes: &[u8], heard: &[(Form, usize)]) -> Vec<String> {
+/// Hints on bytes in which so many strings of each form were heard, and others nearly or not.
+pub fn hints(bytes: &[u8], heard: &[(Form, usize)], is_near: bool) -> Vec<String> {
     if bytes.is_empty() {
         return vec!["the file is empty: no byte was recorded; check cable and clock, and that the recorder had the port open".to_string()];
     }
@@ -25,8 +25,9 @@ pub fn hints(bytes: &[u8], heard: &[(Form, usize)]) -> Vec<String> {
             repair.cause, repair.advice
         ));
     }
+    hints.extend(rmc::other_layout(bytes));
     if hints.is_empty() && heard.iter().all(|(_, count)| *count == 0) {
-        hints.push(from_bytes(bytes));
+        hints.extend(from_bytes(bytes, is_near));
     }
     hints
 }
@@ -43,8 +44,8 @@ fn gained(bytes: &[u8], heard: &[(Form, usize)]) -> Option<(Form, usize)> {
     best.map(|(form, count, _)| (form, count))
 }
 
-/// What the bytes alone tell, where nothing brings a string back.
-fn from_bytes(bytes: &[u8]) -> String {
+/// What the bytes alone tell, where nothing brings a string back; nothing of text in which a form was nearly heard, since that is told.
+fn from_bytes(bytes: &[u8], is_near: bool) -> Option<String> {
     let total = bytes.len();
     let text = bytes
         .iter()
@@ -52,7 +53,7 @@ fn from_bytes(bytes: &[u8]) -> String {
         .count();
     let high = bytes.iter().filter(|byte| **byte >= 0x80).count();
     let has = |word: &[u8]| bytes.windows(word.len()).any(|part| part == word);
-    if bytes
+    let hint = if bytes
         .get(..100)
         .is_some_and(|head| read(Form::FRAME, head).is_ok())
     {
@@ -60,6 +61,8 @@ fn from_bytes(bytes: &[u8]) -> String {
         "the file begins with an IEEE1344 frame, form 8 or 11, and these are not listened for; a frame does not tell which of the two it is, and they differ in the sign of the offset".to_string()
     } else if has(b"\ntime=") && has(b"\nsync=") {
         "the file holds blocks, as `lindenscoop listen` prints them, and no strings; `listen --record FILE` keeps the bytes".to_string()
+    } else if (has(b"$GPGGA,") || has(b"$GPZDA,")) && !has(b"RMC,") {
+        "the file holds NMEA strings, and no RMC string among them, which is the only one of these that is taken; switch RMC on in the clock".to_string()
     } else if text * 3 < total * 2 {
         let other = total - text;
         format!("{other} of {total} bytes are no text: the speed or the framing of the port was probably wrong; compare --baud and --framing with the clock's setting")
@@ -67,7 +70,10 @@ fn from_bytes(bytes: &[u8]) -> String {
         format!("bit 7 is set in {high} bytes: the line may have been disturbed, or its parity set wrongly")
     } else if !bytes.contains(&b'\r') && !bytes.contains(&3) {
         "there is no CR and no ETX in the file, with one of which each string ends: the recorder left control bytes out; record with `lindenscoop listen PORT --record FILE`".to_string()
+    } else if is_near {
+        return None;
     } else {
         "the bytes are text, but of none of these forms; compare the clock's setting of its string with `lindenscoop --help`".to_string()
-    }
+    };
+    Some(hint)
 }

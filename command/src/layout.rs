@@ -1,19 +1,21 @@
 //! The layouts of the serial forms, to say where a string that is refused goes wrong. What is valid the library alone decides.
 
+use std::ops::RangeInclusive;
+
 use lindenscoop::{read, Date, Form, Refusal};
 
 use crate::forms;
 
 /// A valid string, and below each of its bytes a letter that names its field; a dot is a byte that never changes.
-struct Layout {
+pub struct Layout {
     form: Form,
-    sample: &'static [u8],
-    fields: &'static [u8],
+    pub sample: &'static [u8],
+    pub fields: &'static [u8],
     /// so many bytes at the head tell the form
     head: usize,
 }
 
-const LAYOUTS: [Layout; 8] = [
+const LAYOUTS: [Layout; 9] = [
     Layout {
         form: Form::STANDARD,
         sample: b"\x02D:01.01.24;T:1;U:12.00.00;  U \x03",
@@ -29,7 +31,7 @@ const LAYOUTS: [Layout; 8] = [
     Layout {
         form: Form::ERLANGEN,
         sample: b"\x0201.01.24; 1; 13:00:00; +01:00; #*     ; 47.3500N   8.0625E  431m\x03",
-        fields: b".dd.mm.yy..w..HH.MM.SS..+oo.oo..uvscl.i.ppp.qqqqN.ppp.qqqqE.hhhh..",
+        fields: b".dd.mm.yy..w..HH.MM.SS..+oo.oo..uvscl.i.ppp.qqqqN.PPP.QQQQE.hhhh..",
         head: 10,
     },
     Layout {
@@ -47,7 +49,7 @@ const LAYOUTS: [Layout; 8] = [
     Layout {
         form: Form::SYSPLEX,
         sample: b"\x01366:23:59:60?\r\n",
-        fields: b".jjj.HH.MM.SSQ..",
+        fields: b".jjj.HH.MM.SS?..",
         head: 5,
     },
     Layout {
@@ -62,15 +64,26 @@ const LAYOUTS: [Layout; 8] = [
         fields: b".dd.mm.yy.w.HH.MM.SSzzzzuc...",
         head: 10,
     },
+    Layout {
+        form: Form::RMC,
+        sample: b"$GPRMC,120000.00,A,4721.00,N,00803.75,E,0.0,0.0,010124,0.0,E*54\r\n",
+        fields: b".......HHMMSS.ff.V.bbBB.BB.N.gggGG.GG.E.........ddmmyy.......kk..",
+        head: 7,
+    },
 ];
 
 const DIGITS: &[u8] = b"0123456789";
 const PADDED: &[u8] = b" 0123456789";
-/// Letters of a zone, the spaces behind it among them.
-const ZONE: usize = 4;
+
+/// Where a sign stands, its byte for a minus, and the letters of the digits that it stands on.
+const SIGNS: [(u8, u8, &[u8]); 3] = [
+    (b'+', b'-', b"o"),
+    (b'N', b'S', b"pqbB"),
+    (b'E', b'W', b"PQgG"),
+];
 
 /// The name of a field and the bytes that its places take.
-fn field(letter: u8) -> (&'static str, &'static [u8]) {
+pub fn field(letter: u8) -> (&'static str, &'static [u8]) {
     match letter {
         b'd' => ("the day", DIGITS),
         b'm' => ("the month", DIGITS),
@@ -83,7 +96,8 @@ fn field(letter: u8) -> (&'static str, &'static [u8]) {
         b'f' => ("the fraction", DIGITS),
         b'n' => ("the channel", DIGITS),
         b'u' => ("the letter for sync", b"# "),
-        b'Q' => ("the letter for sync", b" ?"),
+        b'?' => ("the letter for sync", b" ?"),
+        b'V' => ("the status", b"AV"),
         b'v' => ("the letter for fix", b"* "),
         b'x' => ("the letter for utc and summer", b"U S"),
         b'a' => ("the letter for change and leap", b"!A "),
@@ -93,8 +107,12 @@ fn field(letter: u8) -> (&'static str, &'static [u8]) {
         b'i' => ("the letter of second 60", b"L "),
         b'+' => ("the sign of the offset", b"+-"),
         b'o' => ("the offset", DIGITS),
-        b'p' => ("whole degrees", PADDED),
-        b'q' => ("parts of a degree", DIGITS),
+        b'p' | b'P' => ("whole degrees", PADDED),
+        b'q' | b'Q' => ("parts of a degree", DIGITS),
+        b'b' => ("the degrees of latitude", DIGITS),
+        b'B' => ("the minutes of latitude", DIGITS),
+        b'g' => ("the degrees of longitude", DIGITS),
+        b'G' => ("the minutes of longitude", DIGITS),
         b'N' => ("north or south", b"NS"),
         b'E' => ("east or west", b"EW"),
         b'h' => ("the altitude", PADDED),
@@ -104,13 +122,13 @@ fn field(letter: u8) -> (&'static str, &'static [u8]) {
     }
 }
 
-fn layout(form: Form) -> &'static Layout {
+pub fn layout(form: Form) -> &'static Layout {
     let found = LAYOUTS.iter().find(|layout| layout.form == form);
     found.expect("each form that is listened for has a layout")
 }
 
 impl Layout {
-    fn takes(&self, at: usize, byte: u8) -> bool {
+    pub fn takes(&self, at: usize, byte: u8) -> bool {
         match self.fields[at] {
             b'.' => self.sample[at] == byte,
             letter => field(letter).1.contains(&byte),
@@ -130,8 +148,8 @@ impl Layout {
         self.fields.iter().position(|field| *field == letter)
     }
 
-    /// The number that a field's digits spell.
-    fn number(&self, window: &[u8], letter: u8) -> Option<u32> {
+    /// The number that a field's digits spell, without a point between them.
+    pub fn number(&self, window: &[u8], letter: u8) -> Option<u32> {
         let places = (0..window.len()).filter(|at| self.fields[*at] == letter);
         let text: String = places.map(|at| char::from(window[at])).collect();
         text.trim_start().parse().ok()
@@ -146,8 +164,16 @@ impl Layout {
         })
     }
 
+    /// The hundredths of a minute that may stand behind degrees: none behind the last.
+    fn minutes_behind(&self, window: &[u8], degrees: u8, last: u32) -> RangeInclusive<u32> {
+        match self.number(window, degrees) {
+            Some(number) if number == last => 0..=0,
+            _ => 0..=5999,
+        }
+    }
+
     /// Whether the number of a field is out of its range; of a day, whether the library's calendar has no such date.
-    fn is_out_of_range(&self, window: &[u8], letter: u8) -> bool {
+    pub fn is_out_of_range(&self, window: &[u8], letter: u8) -> bool {
         let range = match letter {
             b'd' => {
                 let date = self.date(window);
@@ -159,18 +185,32 @@ impl Layout {
             b'w' => 1..=7,
             b'H' => 0..=23,
             b'M' => 0..=59,
+            b'b' => 0..=90,
+            b'B' => self.minutes_behind(window, b'b', 90),
+            b'g' => 0..=180,
+            b'G' => self.minutes_behind(window, b'g', 180),
             _ => 0..=60,
         };
         let number = self.number(window, letter);
         number.is_some_and(|number| !range.contains(&number))
     }
 
-    /// The first field that is out of range: channel, day of year, month, day, weekday, hour, minute, second. Where each is in it an offset
-    /// or a position is not, and the day is told.
+    /// The first field that is out of range: channel, day of year, month, day, weekday, hour, minute, second, latitude, longitude. Where each
+    /// is in it an offset or a position in degrees is not, and the day is told.
     fn out_of_range(&self, window: &[u8]) -> usize {
         let is_out = |letter: &u8| self.is_out_of_range(window, *letter);
-        let letter = b"njmdwHMS".iter().copied().find(is_out);
+        let letter = b"njmdwHMSbBgG".iter().copied().find(is_out);
         self.place_of(letter.unwrap_or(b'd')).unwrap_or(0)
+    }
+
+    /// The minus, S or W that stands on a zero.
+    pub fn minus_on_a_zero(&self, window: &[u8]) -> Option<usize> {
+        SIGNS.iter().find_map(|(sign, minus, digits)| {
+            let at = self.place_of(*sign)?;
+            let mut places = (0..window.len()).filter(|at| digits.contains(&self.fields[*at]));
+            let is_zero = places.all(|at| matches!(window[at], b'0' | b' '));
+            (is_zero && window.get(at) == Some(minus)).then_some(at)
+        })
     }
 }
 
@@ -228,70 +268,33 @@ pub fn failure(form: Form, rest: &[u8]) -> Option<(Refusal, usize)> {
     Some((refusal, at))
 }
 
-/// The weekday, where another one would do; else, in an Erlangen string, the letter of second 60 or a sign on a zero.
+/// The weekday, where another one would do; else the letter of second 60, or a sign on a zero.
 fn disagreement(form: Form, window: &[u8]) -> usize {
     let layout = layout(form);
-    let Some(weekday) = layout.fields.iter().rposition(|field| *field == b'w') else {
-        return 0;
+    let weekday = layout.fields.iter().rposition(|field| *field == b'w');
+    let fits = |at: &usize| {
+        (b'1'..=b'7').any(|day| {
+            let mut other = window.to_vec();
+            other[*at] = day;
+            read(form, &other).is_ok()
+        })
     };
-    let fits = (b'1'..=b'7').any(|day| {
-        let mut other = window.to_vec();
-        other[weekday] = day;
-        read(form, &other).is_ok()
-    });
-    let leap = layout
-        .place_of(b'i')
-        .filter(|at| (window[*at] == b'L') != (layout.number(window, b'S') == Some(60)));
-    match leap {
-        _ if fits => weekday,
-        Some(at) => at,
-        None => layout.place_of(b'+').unwrap_or(weekday),
-    }
-}
-
-fn byte_name(byte: u8) -> String {
-    let name = match byte {
-        1 => "SOH",
-        2 => "STX",
-        3 => "ETX",
-        b'\n' => "LF",
-        b'\r' => "CR",
-        b' ' => "space",
-        0x21..=0x7e => return format!("'{}'", char::from(byte)),
-        _ => return format!("byte {byte:02X}"),
+    let is_wrong = |at: &usize| {
+        let is_60 = layout.number(window, b'S') == Some(60);
+        (window[*at] == b'L') != is_60
     };
-    name.to_string()
-}
-
-/// What stands at a place of a string and what belongs there, in words.
-pub fn described(form: Form, rest: &[u8], at: usize) -> String {
-    let layout = layout(form);
-    if at >= rest.len() {
-        return "the file ends here".to_string();
-    }
-    let found = byte_name(rest[at]);
-    match layout.fields[at] {
-        b'.' => format!("{found} instead of {}", byte_name(layout.sample[at])),
-        b'z' if rest.len() >= at + ZONE => format!(
-            "\"{}\" in the zone, which is \"UTC \", \"CET \" or \"CEST\"",
-            rest[at..at + ZONE].escape_ascii()
-        ),
-        letter if !layout.takes(at, rest[at]) => format!("{found} in {}", field(letter).0),
-        letter => {
-            let end = (at..layout.fields.len()).find(|end| layout.fields[*end] != letter);
-            let spelled = &rest[at..end.unwrap_or(at + 1).min(rest.len())];
-            format!(
-                "in {}, which is \"{}\"",
-                field(letter).0,
-                spelled.escape_ascii()
-            )
-        }
-    }
+    weekday
+        .filter(fits)
+        .or(layout.place_of(b'i').filter(is_wrong))
+        .or(layout.minus_on_a_zero(window))
+        .or(weekday)
+        .unwrap_or(0)
 }
 
 #[cfg(test)]
 mod tests {
     use super::*;
+    use crate::telling::described;
 
     #[test]
     fn samples_are_valid_and_fit() {

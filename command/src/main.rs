@@ -20,6 +20,7 @@ mod progress;
 mod record_json;
 mod recording;
 mod repairs;
+mod rmc;
 mod scan;
 mod simulate;
 mod source;
@@ -27,6 +28,7 @@ mod stop;
 mod style;
 mod sys;
 mod target;
+mod telling;
 mod why;
 mod write;
 

@@ -132,9 +132,10 @@ fn date(members: &Members) -> Result<Option<Date>, String> {
 fn fraction(text: &str) -> Result<Fraction, String> {
     let spelled = text.strip_prefix("0.").unwrap_or("");
     match (spelled.len(), digits(spelled)) {
+        (2, Some(value)) => Ok(Fraction::Hundredths(value)),
         (3, Some(value)) => Ok(Fraction::Thousandths(value)),
         (7, Some(value)) => Ok(Fraction::TenMillionths(value)),
-        _ => Err(format!("\"fraction\" must be as \"0.123\" or \"0.1234567\", with 3 or 7 digits, not \"{text}\"")),
+        _ => Err(format!("\"fraction\" must be as \"0.12\", \"0.123\" or \"0.1234567\", with 2, 3 or 7 digits as the form has it, not \"{text}\"")),
     }
 }
 
@@ -151,13 +152,21 @@ fn offset(text: &str) -> Result<i32, String> {
     }
 }
 
+/// In degrees by three keys, or in minutes by two: one kind is never made of the other.
 fn position(members: &Members) -> Result<Option<Position>, String> {
+    match (in_degrees(members)?, in_minutes(members)?) {
+        (Some(_), Some(_)) => Err("\"latitude\" and \"latitude_minutes\" are both there; give the kind that the form carries, and null for the keys of the other".to_string()),
+        (degrees, minutes) => Ok(degrees.or(minutes)),
+    }
+}
+
+fn in_degrees(members: &Members) -> Result<Option<Position>, String> {
     let latitude = number(members, "latitude")?;
     let longitude = number(members, "longitude")?;
     let altitude = whole(members, "altitude")?;
     match (latitude, longitude, altitude) {
         (None, None, None) => Ok(None),
-        (Some(latitude), Some(longitude), Some(altitude)) => Ok(Some(Position {
+        (Some(latitude), Some(longitude), Some(altitude)) => Ok(Some(Position::Degrees {
             latitude: degrees(latitude)?,
             longitude: degrees(longitude)?,
             altitude,
@@ -169,21 +178,44 @@ fn position(members: &Members) -> Result<Option<Position>, String> {
     }
 }
 
-/// Degrees with up to four digits behind the point, in ten-thousandths.
+fn in_minutes(members: &Members) -> Result<Option<Position>, String> {
+    let latitude = number(members, "latitude_minutes")?;
+    let longitude = number(members, "longitude_minutes")?;
+    match (latitude, longitude) {
+        (None, None) => Ok(None),
+        (Some(latitude), Some(longitude)) => Ok(Some(Position::Minutes {
+            latitude: minutes(latitude)?,
+            longitude: minutes(longitude)?,
+        })),
+        _ => Err(
+            "\"latitude_minutes\" and \"longitude_minutes\" must be there together, or both be null"
+                .to_string(),
+        ),
+    }
+}
+
 fn degrees(spelled: &str) -> Result<i32, String> {
+    parts_of(spelled, 4).ok_or_else(|| {
+        format!("{spelled} is no degrees; give up to four digits behind the point, such as -8.0625")
+    })
+}
+
+fn minutes(spelled: &str) -> Result<i32, String> {
+    parts_of(spelled, 2).ok_or_else(|| {
+        format!("{spelled} is no minutes of arc; give up to two digits behind the point, such as -483.75")
+    })
+}
+
+/// A number with up to so many digits behind the point, in parts of the last of them. What is out of range the library refuses, so that only
+/// what would not fit is kept from it.
+fn parts_of(spelled: &str, most: usize) -> Option<i32> {
     let (sign, size) = match spelled.strip_prefix('-') {
         Some(size) => (-1, size),
         None => (1, spelled),
     };
     let (before, behind) = size.split_once('.').unwrap_or((size, "0"));
-    let parts = (digits(before), digits(behind));
-    match parts {
-        (Some(whole @ 0..=999), Some(part)) if behind.len() <= 4 => {
-            let part = part * 10_u32.pow(4 - behind.len() as u32);
-            Ok(sign * (whole * 10_000 + part) as i32)
-        }
-        _ => Err(format!(
-            "{spelled} is no degrees; give up to four digits behind the point, such as -8.0625"
-        )),
-    }
+    let whole = digits(before).filter(|whole| *whole <= 99_999)?;
+    let part = digits(behind).filter(|_| behind.len() <= most)?;
+    let scale = |places: usize| 10_u32.pow(places as u32);
+    Some(sign * (whole * scale(most) + part * scale(most - behind.len())) as i32)
 }

@@ -1,5 +1,7 @@
 //! What recorders do to strings, and how it is undone to see whether it happened.
 
+use crate::rmc;
+
 pub struct Repair {
     /// None where it cannot have happened
     pub undo: fn(&[u8]) -> Option<Vec<u8>>,
@@ -49,6 +51,16 @@ pub const ALL: &[Repair] = &[
         undo: position_for_sync,
         cause: "the byte behind the zone is '*', which tells of the position in the manual of the GLN180PEX",
         advice: "Only '#' and a space are taken there, which tell of sync in manual 004, that of the GPS180PEX; and of zones only its UTC, CET and CEST.",
+    },
+    Repair {
+        undo: rmc::talker,
+        cause: "the RMC strings are of another talker than GP, as a receiver of several satellite systems sends them",
+        advice: "Only $GPRMC is taken; set the receiver to the talker GP, or to GPS alone.",
+    },
+    Repair {
+        undo: rmc::padding,
+        cause: "the position of the RMC strings has spaces for leading zeros, of which manual 002 speaks",
+        advice: "Only zeros are taken there.",
     },
     Repair {
         undo: hex_dump,

@@ -11,7 +11,7 @@ use crate::arguments::Arguments;
 use crate::failure::Failure;
 use crate::layout::Places;
 use crate::output::Output;
-use crate::{forms, hints, layout, source, style};
+use crate::{forms, hints, layout, source, style, telling};
 
 /// A file is looked at up to here.
 const MOST: u64 = 16 << 20;
@@ -35,10 +35,14 @@ pub fn run(words: Vec<OsString>) -> Result<bool, Failure> {
         style::BOLD,
         coloured,
     );
-    let counts: Vec<(Form, usize)> = forms::serial_forms()
-        .map(|form| (form, tell_form(form, &bytes, &mut report)))
-        .collect();
-    for hint in hints::hints(&bytes, &counts) {
+    let mut near = 0;
+    let mut counts = Vec::new();
+    for form in forms::serial_forms() {
+        let (heard, misses) = tell_form(form, &bytes, &mut report);
+        counts.push((form, heard));
+        near += misses;
+    }
+    for hint in hints::hints(&bytes, &counts, near > 0) {
         report += &format!(
             "{} {hint}\n",
             style::painted("hint:", style::BOLD, coloured)
@@ -68,8 +72,8 @@ fn look_at(path: &Path) -> Result<(Vec<u8>, String, bool), Failure> {
 /// Near misses that are refused with the same number at the same byte of the string.
 type Misses = BTreeMap<(u32, usize), (usize, usize)>;
 
-/// Tells what was heard of a form and what nearly; the number of strings.
-fn tell_form(form: Form, bytes: &[u8], report: &mut String) -> usize {
+/// Tells what was heard of a form and what nearly; the numbers of both.
+fn tell_form(form: Form, bytes: &[u8], report: &mut String) -> (usize, usize) {
     let places: Vec<usize> = telegrams(form, bytes)
         .into_iter()
         .flatten()
@@ -96,7 +100,7 @@ fn tell_form(form: Form, bytes: &[u8], report: &mut String) -> usize {
     if more > 0 {
         *report += &format!("      and {more} other ways to fail\n");
     }
-    places.len()
+    (places.len(), total)
 }
 
 const SHOWN: usize = 4;
@@ -133,6 +137,6 @@ fn tell_miss(
     format!(
         "      {count} refused with {number}: {meaning}\n        the first begins at byte {place} and fails at byte {}, its byte {at}: {}\n",
         place + at,
-        layout::described(form, &bytes[place..], at)
+        telling::described(form, &bytes[place..], at)
     )
 }

@@ -17,7 +17,7 @@ from .codec import Found, read, search, write, write_into
 from .days import day_number
 from .form import Form
 from .listener import Listener, heard
-from .record import Date, DayOfYear, Fraction, Position, Record
+from .record import Date, DayOfYear, Fraction, Hundredths, Position, PositionInMinutes, Record
 from .refusal import Refusal, Refused
 
 __all__ = [
@@ -26,8 +26,10 @@ __all__ = [
     "Form",
     "Found",
     "Fraction",
+    "Hundredths",
     "Listener",
     "Position",
+    "PositionInMinutes",
     "Record",
     "Refusal",
     "Refused",

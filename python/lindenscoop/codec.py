@@ -31,7 +31,7 @@ def bytes_of(data: BytesLike) -> bytes:
 def read(form: AnyForm, data: BytesLike) -> Record:
     """The record of a whole input of a form; raises Refused."""
     data, numbers = bytes_of(data), library.Numbers()
-    answer = LIBRARY.lindenscoop_read_raw(number_of(form), data, len(data), numbers, RECORD_NUMBERS)
+    answer = LIBRARY.lindenscoop_read_numbers(number_of(form), data, len(data), numbers, RECORD_NUMBERS)
     if answer:
         raise Refused(answer)
     return decode(numbers)
@@ -42,7 +42,7 @@ def write_into(form: AnyForm, record: Record, buffer: bytearray) -> int:
     number, numbers = number_of(form), library.Numbers(*encode(record))
     written = ctypes.c_size_t()
     out = (ctypes.c_uint8 * len(buffer)).from_buffer(buffer)
-    answer = LIBRARY.lindenscoop_write_raw(number, numbers, RECORD_NUMBERS, out, len(buffer), written)
+    answer = LIBRARY.lindenscoop_write_numbers(number, numbers, RECORD_NUMBERS, out, len(buffer), written)
     # Kept by the exception's traceback, it would bar the buffer from growing.
     del out
     if answer:
@@ -64,7 +64,7 @@ def search(form: AnyForm, data: BytesLike, start: int = 0) -> Found:
         raise ValueError(f"start is {start}; a search starts at 0 or later")
     data, numbers, place = bytes_of(data), library.Numbers(), ctypes.c_size_t()
     # Any start past the end finds nothing, so one too great to cross is put there.
-    answer = LIBRARY.lindenscoop_search_raw(number_of(form), data, len(data), min(start, len(data)), place, numbers, RECORD_NUMBERS)
+    answer = LIBRARY.lindenscoop_search_numbers(number_of(form), data, len(data), min(start, len(data)), place, numbers, RECORD_NUMBERS)
     if answer:
         raise Refused(answer)
     return Found(place.value, decode(numbers))

@@ -2,11 +2,12 @@
 from typing import List, Optional, Sequence, Union
 
 from .library import OUTSIDE, crossing
-from .record import Date, DayOfYear, Fraction, Position, Record
+from .record import Date, DayOfYear, Fraction, Hundredths, Position, PositionInMinutes, Record
 
 FLAGS = ("sync", "fix", "utc", "summer", "change", "leap")
 KINDS_OF_FRACTION = {3: 1, 7: 2}
 DIGITS_OF_KIND = {kind: digits for digits, kind in KINDS_OF_FRACTION.items()}
+HUNDREDTHS = 3
 
 
 def _whole(value: int, what: str) -> int:
@@ -45,22 +46,27 @@ def _date(date: Optional[Union[Date, DayOfYear]]) -> List[int]:
     raise TypeError(f"a date is a Date, a DayOfYear or None, not {date!r}")
 
 
-def _fraction(fraction: Optional[Fraction]) -> List[int]:
+def _fraction(fraction: Optional[Union[Fraction, Hundredths]]) -> List[int]:
     if fraction is None:
         return [0, 0]
-    if not isinstance(fraction, Fraction):
-        raise TypeError(f"a fraction is a Fraction or None, not {fraction!r}")
-    kind = KINDS_OF_FRACTION.get(_whole(fraction.digits, "digits"), OUTSIDE)
-    return [kind, _number(fraction.value, "fraction")]
+    if isinstance(fraction, Fraction):
+        kind = KINDS_OF_FRACTION.get(_whole(fraction.digits, "digits"), OUTSIDE)
+        return [kind, _number(fraction.value, "fraction")]
+    if isinstance(fraction, Hundredths):
+        return [HUNDREDTHS, _number(fraction.hundredths, "hundredths")]
+    raise TypeError(f"a fraction is a Fraction, Hundredths or None, not {fraction!r}")
 
 
-def _position(position: Optional[Position]) -> List[int]:
+def _position(position: Optional[Union[Position, PositionInMinutes]]) -> List[int]:
     if position is None:
         return [0, 0, 0, 0, 0, 0]
-    if not isinstance(position, Position):
-        raise TypeError(f"a position is a Position or None, not {position!r}")
-    latitude, longitude = _signed(position.latitude, "latitude"), _signed(position.longitude, "longitude")
-    return [1, *latitude, *longitude, _number(position.altitude, "altitude")]
+    if isinstance(position, Position):
+        latitude, longitude = _signed(position.latitude, "latitude"), _signed(position.longitude, "longitude")
+        return [1, *latitude, *longitude, _number(position.altitude, "altitude")]
+    if isinstance(position, PositionInMinutes):
+        latitude, longitude = _signed(position.latitude_hundredths, "latitude"), _signed(position.longitude_hundredths, "longitude")
+        return [2, *latitude, *longitude, 0]
+    raise TypeError(f"a position is a Position, a PositionInMinutes or None, not {position!r}")
 
 
 def encode(record: Record) -> List[int]:
@@ -85,6 +91,29 @@ def _date_of(n: Sequence[int]) -> Optional[Union[Date, DayOfYear]]:
     return Date(2000 + n[4], n[5], n[6]) if n[3] == 1 else DayOfYear(n[7])
 
 
+def _fraction_of(n: Sequence[int]) -> Optional[Union[Fraction, Hundredths]]:
+    if n[8] == 0:
+        return None
+    if n[8] in DIGITS_OF_KIND:
+        return Fraction(n[9], DIGITS_OF_KIND[n[8]])
+    if n[8] == HUNDREDTHS:
+        return Hundredths(n[9])
+    # Of a library that is newer than this module; any kind in its place would be a wrong number.
+    raise RuntimeError(f"the library stored a fraction of kind {n[8]}")
+
+
+def _position_of(n: Sequence[int]) -> Optional[Union[Position, PositionInMinutes]]:
+    latitude, longitude = -n[23] if n[22] else n[23], -n[25] if n[24] else n[25]
+    if n[21] == 0:
+        return None
+    if n[21] == 1:
+        return Position(latitude, longitude, n[26])
+    if n[21] == 2:
+        return PositionInMinutes(latitude, longitude)
+    # As for a fraction.
+    raise RuntimeError(f"the library stored a position of kind {n[21]}")
+
+
 def decode(n: Sequence[int]) -> Record:
     """The record of numbers that the library stored."""
     return Record(
@@ -92,10 +121,10 @@ def decode(n: Sequence[int]) -> Record:
         minute=n[1],
         second=n[2],
         date=_date_of(n),
-        fraction=Fraction(n[9], DIGITS_OF_KIND[n[8]]) if n[8] else None,
+        fraction=_fraction_of(n),
         channel=n[11] if n[10] else None,
         offset=(-n[20] if n[19] else n[20]) if n[18] else None,
-        position=Position(-n[23] if n[22] else n[23], -n[25] if n[24] else n[25], n[26]) if n[21] else None,
+        position=_position_of(n),
         dsp=_flag_of(n[27]),
         lsp=_flag_of(n[28]),
         **{name: _flag_of(n[12 + place]) for place, name in enumerate(FLAGS)},

@@ -7,7 +7,7 @@ from .refusal import Refusal, Refused
 
 
 class Form(enum.IntEnum):
-    """The forms. Search and listener take those that are serial, 1 to 7 and 10.
+    """The forms. Search and listener take those that are serial, 1 to 7, 10 and 12.
 
     FRAME and C37118 are one frame under two rules for its sign: 1 for an offset above zero in FRAME (IEEE 1344: the offset that is added to
     the encoded time to reach UTC), 1 for one below zero in C37118. A frame does not tell its rule: read by the other one it is not refused,
@@ -25,6 +25,7 @@ class Form(enum.IntEnum):
     BLOCK = 9
     SAT = 10
     C37118 = 11
+    RMC = 12
 
 
 AnyForm = Union[Form, int, str]

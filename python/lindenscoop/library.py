@@ -23,12 +23,12 @@ _place = ctypes.POINTER(ctypes.c_size_t)
 _numbers = ctypes.POINTER(ctypes.c_uint32)
 _state = ctypes.POINTER(ctypes.c_uint8)
 _FUNCTIONS = {
-    "read": [ctypes.c_uint32, ctypes.c_void_p, _size, _numbers, _size],
-    "write": [ctypes.c_uint32, _numbers, _size, ctypes.c_void_p, _size, _place],
-    "search": [ctypes.c_uint32, ctypes.c_void_p, _size, _size, _place, _numbers, _size],
-    "start": [ctypes.c_uint32, _state, _size],
-    "feed_all": [_state, _size, ctypes.c_void_p, _size, _place, _numbers, _size],
-    "day_number": [ctypes.c_uint32, ctypes.c_uint32, ctypes.c_uint32, _numbers],
+    "lindenscoop_read_numbers": [ctypes.c_uint32, ctypes.c_void_p, _size, _numbers, _size],
+    "lindenscoop_write_numbers": [ctypes.c_uint32, _numbers, _size, ctypes.c_void_p, _size, _place],
+    "lindenscoop_search_numbers": [ctypes.c_uint32, ctypes.c_void_p, _size, _size, _place, _numbers, _size],
+    "lindenscoop_start_raw": [ctypes.c_uint32, _state, _size],
+    "lindenscoop_feed_all_numbers": [_state, _size, ctypes.c_void_p, _size, _place, _numbers, _size],
+    "lindenscoop_day_number_raw": [ctypes.c_uint32, ctypes.c_uint32, ctypes.c_uint32, _numbers],
 }
 
 
@@ -60,7 +60,12 @@ def _load() -> ctypes.CDLL:
             "`python/make-shared.sh` in the repository, install it, or set LINDENSCOOP_LIBRARY to its path."
         ) from None
     for name, types in _FUNCTIONS.items():
-        function = getattr(library, f"lindenscoop_{name}_raw")
+        function = getattr(library, name, None)
+        if function is None:
+            raise ImportError(
+                f"lindenscoop: {candidates[0]} has no {name}, so it is of another version than this module. Install both of one version, or set "
+                "LINDENSCOOP_LIBRARY to the path of the right one."
+            )
         function.argtypes, function.restype = types, ctypes.c_uint32
     return library
 

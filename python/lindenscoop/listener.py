@@ -49,7 +49,7 @@ class Listener:
         head, at = ctypes.cast(ctypes.c_char_p(data), ctypes.c_void_p).value, 0
         numbers, used = library.Numbers(), ctypes.c_size_t()
         while at < len(data):
-            answer = LIBRARY.lindenscoop_feed_all_raw(
+            answer = LIBRARY.lindenscoop_feed_all_numbers(
                 self._state, LISTENER_BYTES, head + at, len(data) - at, used, numbers, RECORD_NUMBERS
             )
             at += used.value

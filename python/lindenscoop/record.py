@@ -21,13 +21,32 @@ class DayOfYear:
 
 @dataclasses.dataclass(frozen=True)
 class Fraction:
-    """A fraction of a second as it was sent: `value` with 3 or 7 digits behind the point. str() gives 0.007."""
+    """A fraction of a second as it was sent: `value` with 3 or 7 digits behind the point. str() gives 0.007. `Hundredths` are a class of their own."""
 
     value: int
     digits: int
 
     def __str__(self) -> str:
         return f"0.{self.value:0{self.digits}}"
+
+
+@dataclasses.dataclass(frozen=True)
+class Hundredths:
+    """Hundredths of a second, 0 to 99, as an RMC string has them. str() gives 0.07. No kind of fraction is turned into another, and no attribute
+    of this one is an attribute of Fraction, so that code which knows thousandths and ten-millionths alone raises AttributeError and takes
+    these for neither.
+
+    >>> str(Hundredths(7))
+    '0.07'
+    >>> Hundredths(7).digits  # doctest: +ELLIPSIS
+    Traceback (most recent call last):
+    AttributeError: 'Hundredths' object has no attribute 'digits'...
+    """
+
+    hundredths: int
+
+    def __str__(self) -> str:
+        return f"0.{self.hundredths:02}"
 
 
 @dataclasses.dataclass(frozen=True)
@@ -40,6 +59,21 @@ class Position:
 
 
 @dataclasses.dataclass(frozen=True)
+class PositionInMinutes:
+    """Hundredths of a minute of arc, north and east positive, without an altitude, as an RMC string has them. 284100 is 47 degrees 21.00
+    minutes. One kind of position is never turned into the other, and no attribute of one is an attribute of the other, so that code which
+    knows degrees alone raises AttributeError.
+
+    >>> PositionInMinutes(284100, 48375).latitude  # doctest: +ELLIPSIS
+    Traceback (most recent call last):
+    AttributeError: 'PositionInMinutes' object has no attribute 'latitude'...
+    """
+
+    latitude_hundredths: int
+    longitude_hundredths: int
+
+
+@dataclasses.dataclass(frozen=True)
 class Record:
     """A record; `Record()` is the empty one, 00:00:00 and all else absent. `second` is 60 in a leap second."""
 
@@ -47,7 +81,7 @@ class Record:
     minute: int = 0
     second: int = 0
     date: Optional[Union[Date, DayOfYear]] = None
-    fraction: Optional[Fraction] = None
+    fraction: Optional[Union[Fraction, Hundredths]] = None
     channel: Optional[int] = None
     sync: Optional[bool] = None
     #: position checked
@@ -60,7 +94,7 @@ class Record:
     leap: Optional[bool] = None
     #: minutes of local time minus UTC
     offset: Optional[int] = None
-    position: Optional[Position] = None
+    position: Optional[Union[Position, PositionInMinutes]] = None
     #: a change of summer time is pending (IEEE1344)
     dsp: Optional[bool] = None
     #: a leap second is pending (IEEE1344)

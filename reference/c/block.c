@@ -14,8 +14,9 @@ static inline uint8_t *put_date(uint8_t *o, const lindenscoop_record *r)
 static inline uint8_t *put_fraction(uint8_t *o, const lindenscoop_record *r)
 {
     switch (r->fraction) {
-    case LINDENSCOOP_THOUSANDTHS: return put_digits(o, r->fraction_value, 3);
-    case LINDENSCOOP_TEN_MILLIONTHS: return put_digits(o, r->fraction_value, 7);
+    case LINDENSCOOP_THOUSANDTHS: return put_digits(o, r->fraction_units, 3);
+    case LINDENSCOOP_TEN_MILLIONTHS: return put_digits(o, r->fraction_units, 7);
+    case LINDENSCOOP_HUNDREDTHS: return put_digits(o, r->fraction_units, 2);
     default: return put_byte(o, '-');
     }
 }
@@ -31,20 +32,24 @@ static inline uint8_t *put_flag(uint8_t *o, uint32_t flag)
 }
 
 /* Ten-thousandths of a degree, as +047.3500. */
-static inline uint8_t *put_degrees(uint8_t *o, uint32_t negative, uint32_t degrees)
+static inline uint8_t *put_degrees(uint8_t *o, uint32_t negative, uint32_t units)
 {
-    o = put_byte(o, negative && degrees ? '-' : '+');
-    o = put_byte(put_digits(o, degrees / 10000, 3), '.');
-    return put_digits(o, degrees % 10000, 4);
+    o = put_digits(put_sign(o, negative, units), units / 10000, 3);
+    return put_digits(put_byte(o, '.'), units % 10000, 4);
 }
 
 static inline uint8_t *put_position(uint8_t *o, const lindenscoop_record *r)
 {
-    if (r->position == LINDENSCOOP_ABSENT)
-        return put_byte(o, '-');
-    o = put_byte(put_degrees(o, r->south, r->latitude), ' ');
-    o = put_byte(put_degrees(o, r->west, r->longitude), ' ');
-    return put_digits(o, r->altitude, 4);
+    switch (r->position) {
+    case LINDENSCOOP_DEGREES:
+        o = put_byte(put_degrees(o, r->south, r->latitude_units), ' ');
+        o = put_byte(put_degrees(o, r->west, r->longitude_units), ' ');
+        return put_digits(o, r->altitude_metres, 4);
+    case LINDENSCOOP_MINUTES:
+        o = put_minutes(put_sign(o, r->south, r->latitude_units), r->latitude_units, 2);
+        return put_minutes(put_sign(put_byte(o, ' '), r->west, r->longitude_units), r->longitude_units, 3);
+    default: return put_byte(o, '-');
+    }
 }
 
 size_t plain_block(const lindenscoop_record *r, uint8_t *out)

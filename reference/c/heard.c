@@ -1,7 +1,7 @@
 /*
- * The program `heard`: a first line with the form's number, 1 to 7 (document 01 gives it one byte, so form 10 is none of its forms), then
- * the stream; it prints a block and an empty line for each string, and a last line. The last n-1 bytes of each read go to the head of the
- * buffer, since a string that has begun there may end in the next read.
+ * The program `heard`: a first line with the form's number, 1 to 7 (document 01 gives it one byte, so forms 10 and 12 are none of its
+ * forms), then the stream; it prints a block and an empty line for each string, and a last line. The last n-1 bytes of each read go to the
+ * head of the buffer, since a string that has begun there may end in the next read.
  */
 #define _POSIX_C_SOURCE 200809L
 #include <stdio.h>

@@ -1,9 +1,10 @@
 /*
- * The checks of document 01 and of document 02, W-201, in plain C, written from these papers: the baseline for the speed of the library.
+ * The checks of document 01 and of document 02, W-201 and W-204, in plain C, written from these papers: the baseline for the speed of the
+ * library.
  *
  * It takes the record and gives the answers of lindenscoop.h, so that both can be compared number by number and neither has to
- * convert; of the library it calls nothing. Forms 1 to 7 and 10 are read, searched and listened for, these and 9 are written. The
- * functions answer as those of the same name in lindenscoop.h; bench/compare.c runs the two side by side.
+ * convert; of the library it calls nothing. Forms 1 to 7, 10 and 12 are read, searched and listened for, these and 9 are written.
+ * The functions answer as those of the same name in lindenscoop.h; bench/compare.c runs the two side by side.
  */
 #ifndef PLAIN_H
 #define PLAIN_H
@@ -12,12 +13,12 @@
 
 #include "lindenscoop.h"
 
-enum { PLAIN_LAST_FORM = 10, PLAIN_LONGEST = 66 };
+enum { PLAIN_LAST_FORM = 12, PLAIN_LONGEST = 66 };
 
 /* Bytes of the strings that have no letter. */
 enum { SOH = 1, STX = 2, ETX = 3 };
 
-/* What a string of a form can be told by before it is read. Rows 0, 8 and 9 stand for no serial form, and have length 0. */
+/* What a string of a form can be told by before it is read. Rows 0, 8, 9 and 11 stand for no serial form, and have length 0. */
 typedef struct plain_shape {
     uint32_t length;
     uint8_t first;
@@ -31,13 +32,24 @@ static inline bool plain_is_serial(uint32_t form)
     return form <= PLAIN_LAST_FORM && plain_shapes[form].length > 0;
 }
 
+static inline uint8_t plain_exclusive_or(const uint8_t *s, int width)
+{
+    uint8_t sum = 0;
+    for (int i = 0; i < width; i++)
+        sum ^= s[i];
+    return sum;
+}
+
 /* The sum of an SPA string: the exclusive-or of the 29 bytes before it. */
 static inline uint8_t plain_spa_sum(const uint8_t *s)
 {
-    uint8_t sum = 0;
-    for (int i = 0; i < 29; i++)
-        sum ^= s[i];
-    return sum;
+    return plain_exclusive_or(s, 29);
+}
+
+/* The sum of an RMC string: the exclusive-or of the 59 bytes between `$` and `*`. */
+static inline uint8_t plain_rmc_sum(const uint8_t *s)
+{
+    return plain_exclusive_or(s + 1, 59);
 }
 
 /* The last bytes fed stand in a ring, the last `kept` of them count, and the next one goes to place `at`. The high four bits of `form` are

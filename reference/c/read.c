@@ -1,4 +1,4 @@
-/* The readers of forms 1 to 7 and 10. Each tests in the order of document 01: 3 (shape), 6 (sum), 4 (ranges), 5 (parts that disagree). */
+/* The readers of forms 1 to 7, 10 and 12. All test in the order of document 01: 3 (shape), 6 (sum), 4 (ranges), 5 (parts that disagree). */
 #include "calendar.h"
 #include "parse.h"
 #include "plain.h"
@@ -12,6 +12,7 @@ const plain_shape plain_shapes[PLAIN_LAST_FORM + 1] = {
     [LINDENSCOOP_SYSPLEX] = {16, SOH, '\n'},
     [LINDENSCOOP_COMPUTIME] = {24, 'T', '\n'},
     [LINDENSCOOP_SAT] = {29, STX, ETX},
+    [LINDENSCOOP_RMC] = {65, '$', '\n'},
 };
 
 static inline uint32_t yes_if(bool test)
@@ -108,7 +109,7 @@ static uint32_t read_capture(const uint8_t *s, lindenscoop_record *r)
 
     *r = record_of(d, t);
     r->fraction = LINDENSCOOP_TEN_MILLIONTHS;
-    r->fraction_value = number(s + 22, 7);
+    r->fraction_units = number(s + 22, 7);
     r->channel = LINDENSCOOP_PRESENT;
     r->channel_number = channel;
     return LINDENSCOOP_OK;
@@ -162,12 +163,12 @@ static uint32_t read_erlangen(const uint8_t *s, lindenscoop_record *r)
     r->offset = LINDENSCOOP_PRESENT;
     r->offset_negative = minus;
     r->offset_minutes = offset;
-    r->position = LINDENSCOOP_PRESENT;
+    r->position = LINDENSCOOP_DEGREES;
     r->south = south;
-    r->latitude = latitude;
+    r->latitude_units = latitude;
     r->west = west;
-    r->longitude = longitude;
-    r->altitude = number(s + 60, 4);
+    r->longitude_units = longitude;
+    r->altitude_metres = number(s + 60, 4);
     return LINDENSCOOP_OK;
 }
 
@@ -190,7 +191,7 @@ static uint32_t read_spa(const uint8_t *s, lindenscoop_record *r)
 
     *r = record_of(d, t);
     r->fraction = LINDENSCOOP_THOUSANDTHS;
-    r->fraction_value = number(s + 25, 3);
+    r->fraction_units = number(s + 25, 3);
     return LINDENSCOOP_OK;
 }
 
@@ -276,6 +277,49 @@ static uint32_t read_sat(const uint8_t *s, lindenscoop_record *r)
     return LINDENSCOOP_OK;
 }
 
+/* Degrees and minutes, as bbbb.bb,n: digits of a width, leading zeros among them, a point, two digits, a comma and one of two letters. */
+static inline bool is_angle(const uint8_t *s, int width, uint8_t one, uint8_t other)
+{
+    return are_digits(s, width) && s[width] == '.' && are_digits(s + width + 1, 2) && s[width + 3] == ','
+           && is_either(s[width + 4], one, other);
+}
+
+/* $GPRMC,hhmmss.ss,A,bbbb.bb,n,lllll.ll,e,0.0,0.0,ddmmyy,0.0,E*hh<CR><LF> */
+static uint32_t read_rmc(const uint8_t *s, lindenscoop_record *r)
+{
+    const uint32_t high = hex_value(s[61]), low = hex_value(s[62]);
+    if (!(IS_TEXT(s, "$GPRMC,") && are_digits(s + 7, 6) && s[13] == '.' && are_digits(s + 14, 2) && s[16] == ','
+          && is_either(s[17], 'A', 'V') && s[18] == ',' && is_angle(s + 19, 4, 'N', 'S') && s[28] == ',' && is_angle(s + 29, 5, 'E', 'W')
+          && IS_TEXT(s + 39, ",0.0,0.0,") && are_digits(s + 48, 6) && IS_TEXT(s + 54, ",0.0,E*") && high < 16 && low < 16
+          && IS_TEXT(s + 63, "\r\n")))
+        return LINDENSCOOP_WRONG_BYTE;
+
+    if (plain_rmc_sum(s) != 16 * high + low)
+        return LINDENSCOOP_WRONG_CHECKSUM;
+
+    const date d = date_at(s, 52, 50, 48);
+    const daytime t = time_at(s, 7, 9, 11);
+    const uint32_t latitude_minutes = number(s + 21, 2), longitude_minutes = number(s + 32, 2);
+    const uint32_t latitude = 6000 * number(s + 19, 2) + 100 * latitude_minutes + number(s + 24, 2);
+    const uint32_t longitude = 6000 * number(s + 29, 3) + 100 * longitude_minutes + number(s + 35, 2);
+    if (!(is_time(t) && is_date(d) && latitude_minutes <= 59 && latitude <= 540000 && longitude_minutes <= 59 && longitude <= 1080000))
+        return LINDENSCOOP_OUT_OF_RANGE;
+    const bool south = s[27] == 'S', west = s[38] == 'W';
+    if ((south && latitude == 0) || (west && longitude == 0))
+        return LINDENSCOOP_DISAGREEMENT;
+
+    *r = record_of(d, t);
+    r->fraction = LINDENSCOOP_HUNDREDTHS;
+    r->fraction_units = number(s + 14, 2);
+    r->sync = yes_if(s[17] == 'A');
+    r->position = LINDENSCOOP_MINUTES;
+    r->south = south;
+    r->latitude_units = latitude;
+    r->west = west;
+    r->longitude_units = longitude;
+    return LINDENSCOOP_OK;
+}
+
 uint32_t plain_read_string(uint32_t form, const uint8_t *s, lindenscoop_record *record)
 {
     switch (form) {
@@ -287,6 +331,7 @@ uint32_t plain_read_string(uint32_t form, const uint8_t *s, lindenscoop_record *
     case LINDENSCOOP_SYSPLEX: return read_sysplex(s, record);
     case LINDENSCOOP_COMPUTIME: return read_computime(s, record);
     case LINDENSCOOP_SAT: return read_sat(s, record);
+    case LINDENSCOOP_RMC: return read_rmc(s, record);
     default: return LINDENSCOOP_UNKNOWN_FORM;
     }
 }

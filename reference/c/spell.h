@@ -45,12 +45,24 @@ static inline uint8_t *put_hex(uint8_t *o, uint8_t b)
     return o + 2;
 }
 
+/* A zero has a plus. */
+static inline uint8_t *put_sign(uint8_t *o, uint32_t negative, uint32_t magnitude)
+{
+    return put_byte(o, negative && magnitude ? '-' : '+');
+}
+
 /* Hours and minutes of an offset with its sign, as +01:00. */
 static inline uint8_t *put_offset(uint8_t *o, uint32_t negative, uint32_t minutes)
 {
-    o = put_byte(o, negative && minutes ? '-' : '+');
-    o = put_byte(put_digits(o, minutes / 60, 2), ':');
-    return put_digits(o, minutes % 60, 2);
+    o = put_digits(put_sign(o, negative, minutes), minutes / 60, 2);
+    return put_digits(put_byte(o, ':'), minutes % 60, 2);
+}
+
+/* Hundredths of a minute of arc: degrees of a width, minutes and hundredths, as 4721.00 or 00803.75. */
+static inline uint8_t *put_minutes(uint8_t *o, uint32_t units, int width)
+{
+    o = put_digits(put_digits(o, units / 6000, width), units / 100 % 60, 2);
+    return put_digits(put_byte(o, '.'), units % 100, 2);
 }
 
 #endif

@@ -1,4 +1,4 @@
-/* The writers of forms 1 to 7 and 10, and the tests in the order of document 01: 1, 7 (bad record), 8 (field missing), 9, 10 (no room). */
+/* The writers of forms 1 to 7, 10 and 12, and tests in the order of document 01: 1, 7 (bad record), 8 (field missing), 9, 10 (no room). */
 #include "calendar.h"
 #include "plain.h"
 #include "spell.h"
@@ -19,17 +19,27 @@ static inline bool is_good_fraction(const lindenscoop_record *r)
 {
     switch (r->fraction) {
     case LINDENSCOOP_ABSENT: return true;
-    case LINDENSCOOP_THOUSANDTHS: return r->fraction_value <= 999;
-    case LINDENSCOOP_TEN_MILLIONTHS: return r->fraction_value <= 9999999;
+    case LINDENSCOOP_THOUSANDTHS: return r->fraction_units <= 999;
+    case LINDENSCOOP_TEN_MILLIONTHS: return r->fraction_units <= 9999999;
+    case LINDENSCOOP_HUNDREDTHS: return r->fraction_units <= 99;
     default: return false;
     }
 }
 
+/* In units of which a degree has so many. */
+static inline bool is_place(const lindenscoop_record *r, uint32_t degree)
+{
+    return r->south <= 1 && r->latitude_units <= 90 * degree && r->west <= 1 && r->longitude_units <= 180 * degree;
+}
+
 static inline bool is_good_position(const lindenscoop_record *r)
 {
-    return r->position == LINDENSCOOP_ABSENT
-           || (r->position == LINDENSCOOP_PRESENT && r->south <= 1 && r->latitude <= 900000 && r->west <= 1 && r->longitude <= 1800000
-               && r->altitude <= 9999);
+    switch (r->position) {
+    case LINDENSCOOP_ABSENT: return true;
+    case LINDENSCOOP_DEGREES: return is_place(r, 10000) && r->altitude_metres <= 9999;
+    case LINDENSCOOP_MINUTES: return is_place(r, 6000);
+    default: return false;
+    }
 }
 
 static inline bool are_good_flags(const lindenscoop_record *r)
@@ -55,10 +65,12 @@ static inline bool has_carried_fields(uint32_t form, const lindenscoop_record *r
     switch (form) {
     case LINDENSCOOP_STANDARD: return full_date && r->sync && r->fix && r->utc && r->summer && r->change && r->leap;
     case LINDENSCOOP_CAPTURE: return full_date && r->fraction == LINDENSCOOP_TEN_MILLIONTHS && r->channel;
-    case LINDENSCOOP_ERLANGEN: return full_date && r->offset && r->sync && r->fix && r->summer && r->change && r->leap && r->position;
+    case LINDENSCOOP_ERLANGEN:
+        return full_date && r->offset && r->sync && r->fix && r->summer && r->change && r->leap && r->position == LINDENSCOOP_DEGREES;
     case LINDENSCOOP_SPA: return full_date && r->fraction == LINDENSCOOP_THOUSANDTHS;
     case LINDENSCOOP_SYSPLEX: return r->date != LINDENSCOOP_ABSENT && r->sync;
     case LINDENSCOOP_SAT: return full_date && r->sync && r->utc && r->summer && r->change;
+    case LINDENSCOOP_RMC: return full_date && r->fraction == LINDENSCOOP_HUNDREDTHS && r->sync && r->position == LINDENSCOOP_MINUTES;
     default: return full_date;
     }
 }
@@ -68,6 +80,16 @@ static inline bool has_carried_fields(uint32_t form, const lindenscoop_record *r
 static inline uint8_t letter_if(uint32_t flag, uint8_t yes, uint8_t no)
 {
     return flag == LINDENSCOOP_YES ? yes : no;
+}
+
+static inline uint8_t latitude_letter(const lindenscoop_record *r)
+{
+    return r->south && r->latitude_units ? 'S' : 'N';
+}
+
+static inline uint8_t longitude_letter(const lindenscoop_record *r)
+{
+    return r->west && r->longitude_units ? 'W' : 'E';
 }
 
 static inline uint8_t weekday_digit(const lindenscoop_record *r)
@@ -93,7 +115,7 @@ static void write_capture(const lindenscoop_record *r, uint8_t *o)
     o = put_byte(put_digits(PUT_TEXT(o, "CH"), r->channel_number, 1), ' ');
     o = put_byte(put_three(o, r->day, r->month, r->year, '.'), ' ');
     o = put_byte(put_three(o, r->hour, r->minute, r->second, ':'), '.');
-    PUT_TEXT(put_digits(o, r->fraction_value, 7), "\r\n");
+    PUT_TEXT(put_digits(o, r->fraction_units, 7), "\r\n");
 }
 
 /* A number whose leading zeros are spaces. */
@@ -126,9 +148,9 @@ static void write_erlangen(const lindenscoop_record *r, uint8_t *o)
     o[5] = ' ';
     o[6] = r->second == 60 ? 'L' : ' ';
     o[7] = ';';
-    o = put_degrees(o + 8, r->latitude, r->south && r->latitude ? 'S' : 'N');
-    o = put_degrees(o, r->longitude, r->west && r->longitude ? 'W' : 'E');
-    PUT_TEXT(put_padded(o, r->altitude, 4), "m\3");
+    o = put_degrees(o + 8, r->latitude_units, latitude_letter(r));
+    o = put_degrees(o, r->longitude_units, longitude_letter(r));
+    PUT_TEXT(put_padded(o, r->altitude_metres, 4), "m\3");
 }
 
 static void write_spa(const lindenscoop_record *r, uint8_t *out)
@@ -137,17 +159,20 @@ static void write_spa(const lindenscoop_record *r, uint8_t *out)
     o = put_byte(put_digits(o, r->hour, 2), '.');
     o = put_byte(put_digits(o, r->minute, 2), ';');
     o = put_byte(put_digits(o, r->second, 2), '.');
-    o = put_byte(put_digits(o, r->fraction_value, 3), ':');
+    o = put_byte(put_digits(o, r->fraction_units, 3), ':');
     put_byte(put_hex(o, plain_spa_sum(out)), '\r');
+}
+
+/* Three numbers of two digits with nothing between them. */
+static inline uint8_t *put_joined(uint8_t *o, uint32_t a, uint32_t b, uint32_t c)
+{
+    return put_digits(put_digits(put_digits(o, a, 2), b, 2), c, 2);
 }
 
 static void write_racal(const lindenscoop_record *r, uint8_t *o)
 {
-    const uint32_t parts[6] = {r->year, r->month, r->day, r->hour, r->minute, r->second};
-    o = PUT_TEXT(o, "XGU");
-    for (int i = 0; i < 6; i++)
-        o = put_digits(o, parts[i], 2);
-    put_byte(o, '\r');
+    o = put_joined(PUT_TEXT(o, "XGU"), r->year, r->month, r->day);
+    put_byte(put_joined(o, r->hour, r->minute, r->second), '\r');
 }
 
 static void write_sysplex(const lindenscoop_record *r, uint8_t *o)
@@ -181,6 +206,19 @@ static void write_sat(const lindenscoop_record *r, uint8_t *o)
     PUT_TEXT(o + 2, "\r\n\3");
 }
 
+static void write_rmc(const lindenscoop_record *r, uint8_t *out)
+{
+    uint8_t *o = put_byte(put_joined(PUT_TEXT(out, "$GPRMC,"), r->hour, r->minute, r->second), '.');
+    o = put_byte(put_digits(o, r->fraction_units, 2), ',');
+    o = put_byte(put_byte(o, letter_if(r->sync, 'A', 'V')), ',');
+    o = put_byte(put_minutes(o, r->latitude_units, 2), ',');
+    o = put_byte(put_byte(o, latitude_letter(r)), ',');
+    o = put_byte(put_minutes(o, r->longitude_units, 3), ',');
+    o = PUT_TEXT(put_byte(o, longitude_letter(r)), ",0.0,0.0,");
+    o = PUT_TEXT(put_joined(o, r->day, r->month, r->year), ",0.0,E*");
+    PUT_TEXT(put_hex(o, plain_rmc_sum(out)), "\r\n");
+}
+
 static void write_string(uint32_t form, const lindenscoop_record *r, uint8_t *out)
 {
     switch (form) {
@@ -191,6 +229,7 @@ static void write_string(uint32_t form, const lindenscoop_record *r, uint8_t *ou
     case LINDENSCOOP_RACAL: write_racal(r, out); break;
     case LINDENSCOOP_SYSPLEX: write_sysplex(r, out); break;
     case LINDENSCOOP_SAT: write_sat(r, out); break;
+    case LINDENSCOOP_RMC: write_rmc(r, out); break;
     default: write_computime(r, out); break;
     }
 }

@@ -2,7 +2,7 @@
  * Prints the time strings that are heard in a serial log as CSV: a header line, then a line for each record, with
  * empty cells for fields that were not sent.
  *
- *     heard_csv FORM [FILE]      FORM is 1..7 or 10; standard input where no file is named
+ *     heard_csv FORM [FILE]      FORM is 1..7, 10 or 12; standard input where no file is named
  *
  *     cc -O2 -std=c99 -Ibindings/c/include bindings/c/examples/heard_csv.c target/staticlib/liblindenscoop.a -o heard_csv
  */
@@ -19,29 +19,39 @@ static void print_flag(uint32_t flag)
     printf(",%s", lindenscoop_is_yes(flag) ? "yes" : lindenscoop_is_no(flag) ? "no" : "");
 }
 
+/* With as many digits as it was sent with. */
+static void print_fraction(const lindenscoop_record *r)
+{
+    uint32_t value, parts;
+    if (lindenscoop_get_fraction(r, &value, &parts))
+        printf("0.%0*u", parts == 1000 ? 3 : 7, (unsigned)value);
+    else if (lindenscoop_get_hundredths(r, &value))
+        printf("0.%02u", (unsigned)value);
+}
+
 static void print_time(const lindenscoop_record *r)
 {
-    uint32_t year, month, day, value, parts, channel;
+    uint32_t year, month, day, channel;
     if (lindenscoop_get_date(r, &year, &month, &day))
         printf("%04u-%02u-%02u", (unsigned)year, (unsigned)month, (unsigned)day);
     printf(",");
     if (lindenscoop_get_day_of_year(r, &day))
         printf("%u", (unsigned)day);
     printf(",%02u:%02u:%02u,", (unsigned)r->hour, (unsigned)r->minute, (unsigned)r->second);
-    if (lindenscoop_get_fraction(r, &value, &parts))
-        printf("0.%0*u", parts == 1000 ? 3 : 7, (unsigned)value);
+    print_fraction(r);
     printf(",");
     if (lindenscoop_get_channel(r, &channel))
         printf("%u", (unsigned)channel);
 }
 
-/* Ten-thousandths of a degree as degrees. */
-static void print_degrees(int32_t value)
+/* A number of hundredths or ten-thousandths, by its digits behind the point. */
+static void print_angle(int32_t value, int digits)
 {
-    uint32_t magnitude = lindenscoop_magnitude(value);
-    printf(",%s%u.%04u", value < 0 ? "-" : "", (unsigned)(magnitude / 10000), (unsigned)(magnitude % 10000));
+    const uint32_t magnitude = lindenscoop_magnitude(value), parts = digits == 2 ? 100 : 10000;
+    printf(",%s%u.%0*u", value < 0 ? "-" : "", (unsigned)(magnitude / parts), digits, (unsigned)(magnitude % parts));
 }
 
+/* The offset, and a position in degrees; one in minutes has columns of its own. */
 static void print_place(const lindenscoop_record *r)
 {
     int32_t minutes, latitude, longitude;
@@ -52,11 +62,22 @@ static void print_place(const lindenscoop_record *r)
         printf("%c%02u:%02u", minutes < 0 ? '-' : '+', (unsigned)(magnitude / 60), (unsigned)(magnitude % 60));
     }
     if (lindenscoop_get_position(r, &latitude, &longitude, &altitude)) {
-        print_degrees(latitude);
-        print_degrees(longitude);
+        print_angle(latitude, 4);
+        print_angle(longitude, 4);
         printf(",%u", (unsigned)altitude);
     } else {
         printf(",,,");
+    }
+}
+
+static void print_minutes(const lindenscoop_record *r)
+{
+    int32_t latitude, longitude;
+    if (lindenscoop_get_position_minutes(r, &latitude, &longitude)) {
+        print_angle(latitude, 2);
+        print_angle(longitude, 2);
+    } else {
+        printf(",,");
     }
 }
 
@@ -72,6 +93,7 @@ static void print_record(const lindenscoop_record *r)
     print_place(r);
     print_flag(r->dsp);
     print_flag(r->lsp);
+    print_minutes(r);
     printf("\n");
 }
 

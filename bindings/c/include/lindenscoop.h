@@ -5,12 +5,17 @@
  * liblindenscoop.a. C99 and later, C++11 and later. No function allocates, keeps a pointer, or has
  * state of its own, so any number of threads may call at the same time on buffers of their own.
  *
- * There are two layers. The exported functions, lindenscoop_..._raw, whose contracts are proved, take each buffer as a pointer
- * and a length, in elements; crates/lindenscoop/specs defines what they answer, the comments here say it in words. Over
- * them stands what a C program calls: lindenscoop_read and so on, which take the structs below, lindenscoop_day_number, which
- * takes a year with its century, and lindenscoop_get_offset and so on, which say whether a field of a record is there and hand
- * out its value. A flag of no is stored as 1 and the number of an absent field as 0, so `if (record.sync)` and a bare
- * `record.offset_minutes` would mislead.
+ * There are two layers. The exported functions, whose contracts are proved, take each buffer as a pointer and a length, in
+ * elements: lindenscoop_..._numbers a record as its 29 numbers, lindenscoop_..._raw no record. crates/lindenscoop/specs defines
+ * what they answer, the comments here say it in words. Over them stands what a C program calls: lindenscoop_read and so on,
+ * which take the structs below, lindenscoop_day_number, which takes a year with its century, and lindenscoop_get_offset and so
+ * on, which say whether a field of a record is there and hand out its value. A flag of no is stored as 1 and the number of an
+ * absent field as 0, so `if (record.sync)` and a bare `record.offset_minutes` would mislead.
+ *
+ * Until form 12 came, those that take a record were named ..._raw too. A fraction and a position had fewer kinds then, and code
+ * that tests number 21 for "not 0" alone would read minutes of arc as degrees. By the old names it does not link, and what was
+ * linked before does not run. Code that calls them by the new ones looks at the kinds first: at number 8, counted from 0, that of
+ * the fraction, before number 9, and at number 21, that of the position, before numbers 22 to 26.
  *
  * What the exported functions ask of their caller, and nothing else:
  *   - a pointer is not null, also where the length behind it is 0, and is aligned for its type;
@@ -48,7 +53,7 @@
 extern "C" {
 #endif
 
-/* The forms. Reading and writing take all of them; search, listener and marks take the serial ones, 1..7 and 10.
+/* The forms. Reading and writing take all of them; search, listener and marks take the serial ones, 1..7, 10 and 12.
    LINDENSCOOP_FRAME and LINDENSCOOP_C37118 are one frame under two rules for its sign: 1 for an offset above zero in the first (IEEE 1344:
    the offset that is added to the encoded time to reach UTC), 1 for one below zero in the second. A frame does not tell its rule: read by
    the other one it is not refused, and its offset has the other sign. Until form 11 came, form 8 had its rule: read such frames as 11. */
@@ -63,7 +68,8 @@ enum {
     LINDENSCOOP_FRAME = 8,            /* the IEEE1344 frame */
     LINDENSCOOP_BLOCK = 9,
     LINDENSCOOP_SAT = 10,
-    LINDENSCOOP_C37118 = 11           /* the IEEE1344 frame with the sign of IEEE C37.118 */
+    LINDENSCOOP_C37118 = 11,          /* the IEEE1344 frame with the sign of IEEE C37.118 */
+    LINDENSCOOP_RMC = 12              /* the NMEA RMC string of 65 bytes */
 };
 
 /* The answers: none, the refusals (lindenscoop_message says what each means), and a record that a listener hands out. */
@@ -85,14 +91,17 @@ enum {
     LINDENSCOOP_HEARD = 100           /* feed: a record is handed out */
 };
 
-/* Kinds of a field. */
+/* Kinds of a field. One kind of a fraction or of a position is never turned into another. */
 enum {
     LINDENSCOOP_ABSENT = 0,
-    LINDENSCOOP_PRESENT = 1,          /* channel, offset, position */
+    LINDENSCOOP_PRESENT = 1,          /* channel, offset */
     LINDENSCOOP_FULL_DATE = 1,        /* date */
     LINDENSCOOP_DAY_OF_YEAR = 2,      /* date */
     LINDENSCOOP_THOUSANDTHS = 1,      /* fraction */
     LINDENSCOOP_TEN_MILLIONTHS = 2,   /* fraction */
+    LINDENSCOOP_HUNDREDTHS = 3,       /* fraction */
+    LINDENSCOOP_DEGREES = 1,          /* position: ten-thousandths of a degree, and an altitude */
+    LINDENSCOOP_MINUTES = 2,          /* position: hundredths of a minute of arc, without an altitude */
     LINDENSCOOP_NO = 1,               /* sync .. lsp */
     LINDENSCOOP_YES = 2               /* sync .. lsp */
 };
@@ -108,10 +117,16 @@ enum {
 enum { LINDENSCOOP_STATE_VERSION = 1 };
 
 /*
- * A record. The numbers of an absent field, and those of a date of the other kind, are 0 when the library stores them,
- * and are not looked at when it is given them. A kind that is none of its field's, and in a field that is there a sign
- * that is not 0 or 1 or a magnitude above 2147483647, are refused with LINDENSCOOP_BAD_RECORD; a sign of 1 on a
- * magnitude of 0 is dropped. The library stores 0 or 1 as a sign, and 0 on a magnitude of 0.
+ * A record. The numbers of an absent field, those of a date of the other kind, and the altitude of a position in minutes, are 0
+ * when the library stores them, and are not looked at when it is given them. A kind that is none of its field's, and in a field
+ * that is there a sign that is not 0 or 1 or a magnitude above 2147483647, are refused with LINDENSCOOP_BAD_RECORD; a sign of 1
+ * on a magnitude of 0 is dropped. The library stores 0 or 1 as a sign, and 0 on a magnitude of 0.
+ *
+ * The numbers named ..._units are in the unit of their field's kind, which stands before them. Until form 12 came a fraction had
+ * two kinds and a position one, and these and altitude_metres were named fraction_value, latitude, longitude and altitude. Code that
+ * uses the old names does not compile any more, so that no minute is read as a degree and no altitude that was not sent as 0. It asks by lindenscoop_get_fraction and lindenscoop_get_position,
+ * which are as they were and answer false for the kinds that came with form 12, and by lindenscoop_get_hundredths and
+ * lindenscoop_get_position_minutes, which answer for these alone.
  */
 typedef struct lindenscoop_record {
     uint32_t hour;                    /* 0..23 */
@@ -122,8 +137,8 @@ typedef struct lindenscoop_record {
     uint32_t month;
     uint32_t day;
     uint32_t day_of_year;             /* 1..366 */
-    uint32_t fraction;                /* ABSENT, THOUSANDTHS, TEN_MILLIONTHS */
-    uint32_t fraction_value;
+    uint32_t fraction;                /* ABSENT, THOUSANDTHS, TEN_MILLIONTHS, HUNDREDTHS */
+    uint32_t fraction_units;          /* 0..999, 0..9999999, 0..99 */
     uint32_t channel;                 /* ABSENT, PRESENT */
     uint32_t channel_number;          /* 0, 1 */
     uint32_t sync;                    /* ABSENT, NO, YES: these six, dsp and lsp */
@@ -135,12 +150,12 @@ typedef struct lindenscoop_record {
     uint32_t offset;                  /* ABSENT, PRESENT: local time minus UTC */
     uint32_t offset_negative;         /* 0, 1 */
     uint32_t offset_minutes;          /* magnitude, at most 840 */
-    uint32_t position;                /* ABSENT, PRESENT */
+    uint32_t position;                /* ABSENT, DEGREES, MINUTES */
     uint32_t south;                   /* 0, 1 */
-    uint32_t latitude;                /* magnitude in ten-thousandths of a degree */
+    uint32_t latitude_units;          /* magnitude: ten-thousandths of a degree, or hundredths of a minute of arc */
     uint32_t west;                    /* 0, 1 */
-    uint32_t longitude;               /* magnitude in ten-thousandths of a degree */
-    uint32_t altitude;                /* metres */
+    uint32_t longitude_units;         /* magnitude, as the latitude's */
+    uint32_t altitude_metres;         /* of DEGREES alone */
     uint32_t dsp;                     /* daylight saving pending */
     uint32_t lsp;                     /* leap second pending */
 } lindenscoop_record;
@@ -161,12 +176,12 @@ LINDENSCOOP_ASSERT(record_has_no_padding, sizeof(lindenscoop_record) == LINDENSC
 LINDENSCOOP_ASSERT(listener_has_no_padding, sizeof(lindenscoop_listener) == LINDENSCOOP_LISTENER_BYTES);
 LINDENSCOOP_AT(hour, 0); LINDENSCOOP_AT(minute, 1); LINDENSCOOP_AT(second, 2); LINDENSCOOP_AT(date, 3);
 LINDENSCOOP_AT(year, 4); LINDENSCOOP_AT(month, 5); LINDENSCOOP_AT(day, 6); LINDENSCOOP_AT(day_of_year, 7);
-LINDENSCOOP_AT(fraction, 8); LINDENSCOOP_AT(fraction_value, 9); LINDENSCOOP_AT(channel, 10);
+LINDENSCOOP_AT(fraction, 8); LINDENSCOOP_AT(fraction_units, 9); LINDENSCOOP_AT(channel, 10);
 LINDENSCOOP_AT(channel_number, 11); LINDENSCOOP_AT(sync, 12); LINDENSCOOP_AT(fix, 13); LINDENSCOOP_AT(utc, 14);
 LINDENSCOOP_AT(summer, 15); LINDENSCOOP_AT(change, 16); LINDENSCOOP_AT(leap, 17); LINDENSCOOP_AT(offset, 18);
 LINDENSCOOP_AT(offset_negative, 19); LINDENSCOOP_AT(offset_minutes, 20); LINDENSCOOP_AT(position, 21);
-LINDENSCOOP_AT(south, 22); LINDENSCOOP_AT(latitude, 23); LINDENSCOOP_AT(west, 24); LINDENSCOOP_AT(longitude, 25);
-LINDENSCOOP_AT(altitude, 26); LINDENSCOOP_AT(dsp, 27); LINDENSCOOP_AT(lsp, 28);
+LINDENSCOOP_AT(south, 22); LINDENSCOOP_AT(latitude_units, 23); LINDENSCOOP_AT(west, 24); LINDENSCOOP_AT(longitude_units, 25);
+LINDENSCOOP_AT(altitude_metres, 26); LINDENSCOOP_AT(dsp, 27); LINDENSCOOP_AT(lsp, 28);
 #undef LINDENSCOOP_AT
 #undef LINDENSCOOP_ASSERT
 
@@ -181,17 +196,17 @@ LINDENSCOOP_AT(altitude, 26); LINDENSCOOP_AT(dsp, 27); LINDENSCOOP_AT(lsp, 28);
 
 /* The record of a string, in the first 29 numbers; the empty record where the string is refused.
    10, before all else: numbers_length is below 29; nothing is stored. */
-LINDENSCOOP_NOT_NULL uint32_t lindenscoop_read_raw(uint32_t form, const uint8_t *input, size_t input_length, uint32_t *numbers, size_t numbers_length);
+LINDENSCOOP_NOT_NULL uint32_t lindenscoop_read_numbers(uint32_t form, const uint8_t *input, size_t input_length, uint32_t *numbers, size_t numbers_length);
 
 /* The string of a record, at the head of out; *written is its length. A refused write changes no byte and stores 0 in
    *written. 10, before all else: numbers_length is below 29. Then, in the order 1, 7, 8, 9, 10: the writer's refusals;
    7 also where the numbers are no record, 10 where out_length is below the string's length. */
-LINDENSCOOP_NOT_NULL uint32_t lindenscoop_write_raw(uint32_t form, const uint32_t *numbers, size_t numbers_length, uint8_t *out, size_t out_length, size_t *written);
+LINDENSCOOP_NOT_NULL uint32_t lindenscoop_write_numbers(uint32_t form, const uint32_t *numbers, size_t numbers_length, uint8_t *out, size_t out_length, size_t *written);
 
 /* The first valid string at or after start, which may be past the end: its place in *place, its record in the first 29
    numbers. Place 0 and the empty record where it is refused with 1 (the form is not serial) or 12, tested in this order.
    10, before all else: numbers_length is below 29; *place is 0, and no number is stored. */
-LINDENSCOOP_NOT_NULL uint32_t lindenscoop_search_raw(uint32_t form, const uint8_t *bytes, size_t bytes_length, size_t start, size_t *place, uint32_t *numbers, size_t numbers_length);
+LINDENSCOOP_NOT_NULL uint32_t lindenscoop_search_numbers(uint32_t form, const uint8_t *bytes, size_t bytes_length, size_t start, size_t *place, uint32_t *numbers, size_t numbers_length);
 
 /* A new listener, in the first 70 bytes. 1: the form is not serial; the state stored then answers every byte with 11.
    10, before all else: state_length is below 70; nothing is stored. */
@@ -201,13 +216,13 @@ LINDENSCOOP_NOT_NULL uint32_t lindenscoop_start_raw(uint32_t form, uint8_t *stat
    changes. 13: as 0, in place of a record that overlaps the last one. 11: not a state, or one of another
    version, and left as it is.
    10, before all else: state_length is below 70 or numbers_length below 29; nothing is stored. */
-LINDENSCOOP_NOT_NULL uint32_t lindenscoop_feed_raw(uint8_t *state, size_t state_length, uint8_t byte, uint32_t *numbers, size_t numbers_length);
+LINDENSCOOP_NOT_NULL uint32_t lindenscoop_feed_numbers(uint8_t *state, size_t state_length, uint8_t byte, uint32_t *numbers, size_t numbers_length);
 
 /* Feeds bytes one after the other, up to the first that is answered by anything but 0, and returns that answer; *used
    is how many were fed, that one included. 0: all were fed and nothing was heard. 10: as for one byte; *used is 0.
    A call that is lent bytes and is not answered 10 uses one at least. Called again behind the bytes used, and on
-   buffer after buffer, it answers to every byte as lindenscoop_feed_raw does, wherever the buffers end. */
-LINDENSCOOP_NOT_NULL uint32_t lindenscoop_feed_all_raw(uint8_t *state, size_t state_length, const uint8_t *bytes, size_t bytes_length, size_t *used, uint32_t *numbers, size_t numbers_length);
+   buffer after buffer, it answers to every byte as lindenscoop_feed_numbers does, wherever the buffers end. */
+LINDENSCOOP_NOT_NULL uint32_t lindenscoop_feed_all_numbers(uint8_t *state, size_t state_length, const uint8_t *bytes, size_t bytes_length, size_t *used, uint32_t *numbers, size_t numbers_length);
 
 /* Runs a new listener over bytes: marks[i] is 1 where byte i completes a valid string, else 0, for each of them.
    1: the form is not serial. 10: marks_length is below bytes_length. Tested in this order; neither changes a mark. */
@@ -240,7 +255,7 @@ static inline const uint8_t *lindenscoop_bytes(const void *bytes)
 static inline uint32_t lindenscoop_read(uint32_t form, const void *input, size_t length, lindenscoop_record *record)
 {
     uint32_t numbers[LINDENSCOOP_RECORD_NUMBERS];
-    uint32_t answer = lindenscoop_read_raw(form, lindenscoop_bytes(input), length, numbers, LINDENSCOOP_RECORD_NUMBERS);
+    uint32_t answer = lindenscoop_read_numbers(form, lindenscoop_bytes(input), length, numbers, LINDENSCOOP_RECORD_NUMBERS);
     memcpy(record, numbers, sizeof numbers);
     return answer;
 }
@@ -250,13 +265,13 @@ static inline uint32_t lindenscoop_write(uint32_t form, const lindenscoop_record
     uint32_t numbers[LINDENSCOOP_RECORD_NUMBERS];
     uint8_t none = 0;
     memcpy(numbers, record, sizeof numbers);
-    return lindenscoop_write_raw(form, numbers, LINDENSCOOP_RECORD_NUMBERS, out ? LINDENSCOOP_CAST(uint8_t *, out) : &none, length, written);
+    return lindenscoop_write_numbers(form, numbers, LINDENSCOOP_RECORD_NUMBERS, out ? LINDENSCOOP_CAST(uint8_t *, out) : &none, length, written);
 }
 
 static inline uint32_t lindenscoop_search(uint32_t form, const void *bytes, size_t length, size_t start, size_t *place, lindenscoop_record *record)
 {
     uint32_t numbers[LINDENSCOOP_RECORD_NUMBERS];
-    uint32_t answer = lindenscoop_search_raw(form, lindenscoop_bytes(bytes), length, start, place, numbers, LINDENSCOOP_RECORD_NUMBERS);
+    uint32_t answer = lindenscoop_search_numbers(form, lindenscoop_bytes(bytes), length, start, place, numbers, LINDENSCOOP_RECORD_NUMBERS);
     memcpy(record, numbers, sizeof numbers);
     return answer;
 }
@@ -270,7 +285,7 @@ static inline uint32_t lindenscoop_start(uint32_t form, lindenscoop_listener *li
 static inline uint32_t lindenscoop_feed(lindenscoop_listener *listener, uint8_t byte, lindenscoop_record *record)
 {
     uint32_t numbers[LINDENSCOOP_RECORD_NUMBERS];
-    uint32_t answer = lindenscoop_feed_raw(listener->bytes, LINDENSCOOP_LISTENER_BYTES, byte, numbers, LINDENSCOOP_RECORD_NUMBERS);
+    uint32_t answer = lindenscoop_feed_numbers(listener->bytes, LINDENSCOOP_LISTENER_BYTES, byte, numbers, LINDENSCOOP_RECORD_NUMBERS);
     if (answer == LINDENSCOOP_HEARD)
         memcpy(record, numbers, sizeof numbers);
     return answer;
@@ -279,7 +294,7 @@ static inline uint32_t lindenscoop_feed(lindenscoop_listener *listener, uint8_t 
 static inline uint32_t lindenscoop_feed_all(lindenscoop_listener *listener, const void *bytes, size_t length, size_t *used, lindenscoop_record *record)
 {
     uint32_t numbers[LINDENSCOOP_RECORD_NUMBERS];
-    uint32_t answer = lindenscoop_feed_all_raw(listener->bytes, LINDENSCOOP_LISTENER_BYTES, lindenscoop_bytes(bytes), length, used, numbers, LINDENSCOOP_RECORD_NUMBERS);
+    uint32_t answer = lindenscoop_feed_all_numbers(listener->bytes, LINDENSCOOP_LISTENER_BYTES, lindenscoop_bytes(bytes), length, used, numbers, LINDENSCOOP_RECORD_NUMBERS);
     if (answer == LINDENSCOOP_HEARD)
         memcpy(record, numbers, sizeof numbers);
     return answer;
@@ -314,13 +329,13 @@ static inline const char *lindenscoop_message(uint32_t answer)
     case LINDENSCOOP_OUT_OF_RANGE:
         return "a number is outside its range, or there is no such date";
     case LINDENSCOOP_DISAGREEMENT:
-        return "two parts disagree: weekday and date, `L` and second 60, seconds of the day and time, a minus or a frame's sign 1 on a zero, utc and summer both yes";
+        return "two parts disagree: weekday and date, `L` and second 60, seconds of the day and time, a minus, `S`, `W` or a frame's sign 1 on a zero, utc and summer both yes";
     case LINDENSCOOP_WRONG_CHECKSUM:
-        return "the SPA sum or the frame's parity is wrong";
+        return "the SPA or RMC sum or the frame's parity is wrong";
     case LINDENSCOOP_BAD_RECORD:
         return "the record to be written is bad";
     case LINDENSCOOP_MISSING_FIELD:
-        return "a field that the form carries is absent or of the other kind";
+        return "a field that the form carries is absent or of another kind";
     case LINDENSCOOP_NOT_EXPRESSIBLE:
         return "the form has no letter for the record's values";
     case LINDENSCOOP_SHORT_BUFFER:
@@ -387,12 +402,12 @@ static inline void lindenscoop_set_day_of_year(lindenscoop_record *record, uint3
     record->day_of_year = day;
 }
 
-/* The fraction of the second is value / parts; parts is 1000 or 10000000, as it was sent. */
+/* The fraction of the second is value / parts; parts is 1000 or 10000000, as it was sent. False for hundredths. */
 static inline LINDENSCOOP_MUST_CHECK bool lindenscoop_get_fraction(const lindenscoop_record *record, uint32_t *value, uint32_t *parts)
 {
     if (record->fraction != LINDENSCOOP_THOUSANDTHS && record->fraction != LINDENSCOOP_TEN_MILLIONTHS)
         return false;
-    *value = record->fraction_value;
+    *value = record->fraction_units;
     *parts = record->fraction == LINDENSCOOP_THOUSANDTHS ? 1000 : 10000000;
     return true;
 }
@@ -401,7 +416,22 @@ static inline LINDENSCOOP_MUST_CHECK bool lindenscoop_get_fraction(const lindens
 static inline void lindenscoop_set_fraction(lindenscoop_record *record, uint32_t kind, uint32_t value)
 {
     record->fraction = kind;
-    record->fraction_value = value;
+    record->fraction_units = value;
+}
+
+/* Hundredths of the second, 0..99, as an RMC string has them. False for thousandths and ten-millionths. */
+static inline LINDENSCOOP_MUST_CHECK bool lindenscoop_get_hundredths(const lindenscoop_record *record, uint32_t *hundredths)
+{
+    if (record->fraction != LINDENSCOOP_HUNDREDTHS)
+        return false;
+    *hundredths = record->fraction_units;
+    return true;
+}
+
+static inline void lindenscoop_set_hundredths(lindenscoop_record *record, uint32_t hundredths)
+{
+    record->fraction = LINDENSCOOP_HUNDREDTHS;
+    record->fraction_units = hundredths;
 }
 
 static inline LINDENSCOOP_MUST_CHECK bool lindenscoop_get_channel(const lindenscoop_record *record, uint32_t *number)
@@ -514,26 +544,51 @@ static inline void lindenscoop_set_offset(lindenscoop_record *record, int32_t mi
     record->offset_minutes = lindenscoop_magnitude(minutes);
 }
 
-/* Ten-thousandths of a degree, north and east positive, and metres. */
-static inline LINDENSCOOP_MUST_CHECK bool lindenscoop_get_position(const lindenscoop_record *record, int32_t *latitude, int32_t *longitude, uint32_t *altitude)
+/* Latitude and longitude of a position of one kind, in its units; false where the record has none of that kind. */
+static inline LINDENSCOOP_MUST_CHECK bool lindenscoop_get_units(const lindenscoop_record *record, uint32_t kind, int32_t *latitude, int32_t *longitude)
 {
     int32_t north = 0, east = 0;
-    if (record->position != LINDENSCOOP_PRESENT || !lindenscoop_signed(record->south, record->latitude, &north) || !lindenscoop_signed(record->west, record->longitude, &east))
+    if (record->position != kind || !lindenscoop_signed(record->south, record->latitude_units, &north) || !lindenscoop_signed(record->west, record->longitude_units, &east))
         return false;
     *latitude = north;
     *longitude = east;
-    *altitude = record->altitude;
+    return true;
+}
+
+static inline void lindenscoop_set_units(lindenscoop_record *record, uint32_t kind, int32_t latitude, int32_t longitude, uint32_t altitude)
+{
+    record->position = kind;
+    record->south = latitude < 0;
+    record->latitude_units = lindenscoop_magnitude(latitude);
+    record->west = longitude < 0;
+    record->longitude_units = lindenscoop_magnitude(longitude);
+    record->altitude_metres = altitude;
+}
+
+/* Ten-thousandths of a degree, north and east positive, and metres. False for a position in minutes. */
+static inline LINDENSCOOP_MUST_CHECK bool lindenscoop_get_position(const lindenscoop_record *record, int32_t *latitude, int32_t *longitude, uint32_t *altitude)
+{
+    if (!lindenscoop_get_units(record, LINDENSCOOP_DEGREES, latitude, longitude))
+        return false;
+    *altitude = record->altitude_metres;
     return true;
 }
 
 static inline void lindenscoop_set_position(lindenscoop_record *record, int32_t latitude, int32_t longitude, uint32_t altitude)
 {
-    record->position = LINDENSCOOP_PRESENT;
-    record->south = latitude < 0;
-    record->latitude = lindenscoop_magnitude(latitude);
-    record->west = longitude < 0;
-    record->longitude = lindenscoop_magnitude(longitude);
-    record->altitude = altitude;
+    lindenscoop_set_units(record, LINDENSCOOP_DEGREES, latitude, longitude, altitude);
+}
+
+/* Hundredths of a minute of arc, north and east positive: 284100 is 47 degrees 21.00 minutes. False for a position in degrees. */
+static inline LINDENSCOOP_MUST_CHECK bool lindenscoop_get_position_minutes(const lindenscoop_record *record, int32_t *latitude, int32_t *longitude)
+{
+    return lindenscoop_get_units(record, LINDENSCOOP_MINUTES, latitude, longitude);
+}
+
+/* There is no altitude in this kind; its number is set to 0. */
+static inline void lindenscoop_set_position_minutes(lindenscoop_record *record, int32_t latitude, int32_t longitude)
+{
+    lindenscoop_set_units(record, LINDENSCOOP_MINUTES, latitude, longitude, 0);
 }
 
 #undef LINDENSCOOP_MUST_CHECK

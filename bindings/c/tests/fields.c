@@ -1,38 +1,14 @@
 /*
  * The header's functions over records, structs and dates, on values that are known. Compiled as C and as C++, under the sanitizers.
- * Records come from blocks, form 9, which spell every field.
+ * Records come from blocks, form 9, which spell every field. Kinds of a fraction and of a position are in kinds.c.
  */
-#include <stdio.h>
-#include <string.h>
 #include <time.h>
 
-#include "lindenscoop.h"
-
-#define CHECK(test) check((test), __LINE__, #test)
-
-static unsigned passed, failed;
-
-static void check(bool holds, int line, const char *test)
-{
-    if (holds) {
-        passed++;
-        return;
-    }
-    failed++;
-    fprintf(stderr, "fields.c: line %d: not %s\n", line, test);
-}
+#include "trial.h"
 
 static const char absent[] = "date=-\ntime=00:00:00\nfraction=-\nchannel=-\nsync=-\nfix=-\nutc=-\nsummer=-\nchange=-\nleap=-\noffset=-\nposition=-\ndsp=-\nlsp=-\n";
 static const char whole[] = "date=24-02-29\ntime=23:59:60\nfraction=0000431\nchannel=1\nsync=no\nfix=yes\nutc=no\nsummer=yes\nchange=no\nleap=yes\noffset=-03:30\nposition=-047.3500 +008.0625 0431\ndsp=no\nlsp=yes\n";
 static const char other[] = "date=day-060\ntime=01:02:03\nfraction=431\nchannel=0\nsync=yes\nfix=no\nutc=yes\nsummer=no\nchange=yes\nleap=no\noffset=+05:45\nposition=+000.0000 -180.0000 0000\ndsp=yes\nlsp=no\n";
-
-static lindenscoop_record record_of(const char *block)
-{
-    lindenscoop_record r;
-    memset(&r, 0xa5, sizeof r);
-    CHECK(lindenscoop_read(LINDENSCOOP_BLOCK, block, strlen(block), &r) == LINDENSCOOP_OK);
-    return r;
-}
 
 /* No field is there, and what stands behind the pointers stays. */
 static void check_nothing(const lindenscoop_record *r)
@@ -41,8 +17,8 @@ static void check_nothing(const lindenscoop_record *r)
     int32_t x = -77, y = -77;
     bool yes = true;
     CHECK(!lindenscoop_get_date(r, &a, &b, &c) && !lindenscoop_get_day_of_year(r, &a));
-    CHECK(!lindenscoop_get_fraction(r, &a, &b) && !lindenscoop_get_channel(r, &a));
-    CHECK(!lindenscoop_get_offset(r, &x) && !lindenscoop_get_position(r, &x, &y, &c));
+    CHECK(!lindenscoop_get_fraction(r, &a, &b) && !lindenscoop_get_hundredths(r, &a) && !lindenscoop_get_channel(r, &a));
+    CHECK(!lindenscoop_get_offset(r, &x) && !lindenscoop_get_position(r, &x, &y, &c) && !lindenscoop_get_position_minutes(r, &x, &y));
     CHECK(!lindenscoop_get_sync(r, &yes) && !lindenscoop_get_fix(r, &yes) && !lindenscoop_get_utc(r, &yes));
     CHECK(!lindenscoop_get_summer(r, &yes) && !lindenscoop_get_change(r, &yes) && !lindenscoop_get_leap(r, &yes));
     CHECK(!lindenscoop_get_dsp(r, &yes) && !lindenscoop_get_lsp(r, &yes));
@@ -107,13 +83,15 @@ static void check_other(void)
 /* Kinds that no field has, from a struct that was never filled in. */
 static void check_no_kinds(void)
 {
-    static const uint32_t kinds[] = {3, 100, 0x80000000u, 0xffffffffu};
+    static const uint32_t kinds[] = {3, 4, 100, 0x80000000u, 0xffffffffu};
     for (size_t k = 0; k < sizeof kinds / sizeof *kinds; k++) {
         uint32_t numbers[LINDENSCOOP_RECORD_NUMBERS];
         lindenscoop_record r;
         for (size_t i = 0; i < LINDENSCOOP_RECORD_NUMBERS; i++)
             numbers[i] = kinds[k];
         memcpy(&r, numbers, sizeof r);
+        if (r.fraction == LINDENSCOOP_HUNDREDTHS) /* the one field that has a third kind */
+            r.fraction = LINDENSCOOP_ABSENT;
         check_nothing(&r);
     }
 }
@@ -138,13 +116,13 @@ static void check_signs(void)
     uint32_t c = 77;
     int32_t x = -77, y = -77;
     lindenscoop_record r = record_of(whole);
-    r.offset_minutes = r.longitude = 0x80000000u;
+    r.offset_minutes = r.longitude_units = 0x80000000u;
     CHECK(!lindenscoop_get_offset(&r, &x) && x == -77);
     CHECK(!lindenscoop_get_position(&r, &x, &y, &c) && x == -77 && y == -77 && c == 77);
-    r.longitude = 1;
-    r.latitude = 0xffffffffu;
+    r.longitude_units = 1;
+    r.latitude_units = 0xffffffffu;
     CHECK(!lindenscoop_get_position(&r, &x, &y, &c) && x == -77);
-    r.latitude = r.offset_minutes = 0x7fffffffu;
+    r.latitude_units = r.offset_minutes = 0x7fffffffu;
     CHECK(lindenscoop_get_offset(&r, &x) && x == -0x7fffffff);
     CHECK(lindenscoop_get_position(&r, &x, &y, &c) && x == -0x7fffffff && y == 1 && c == 431);
     r.offset_negative = r.south = 2;
@@ -285,14 +263,14 @@ static void check_sat_refused(void)
     }
 }
 
-/* Of the numbers that fit in a state the listener knows 1..7 and 10; any other one is refused, and left as it is. */
+/* Of the numbers that fit in a state the listener knows 1..7, 10 and 12; any other one is refused, and left as it is. */
 static void check_forms_of_states(void)
 {
     lindenscoop_listener listener, stored;
     lindenscoop_record r;
     uint8_t last = LINDENSCOOP_STATE_VERSION << 4;
     for (uint32_t form = 0; form < 16; form++, last++) {
-        bool serial = (1 <= form && form <= 7) || form == 10;
+        bool serial = (1 <= form && form <= 7) || form == 10 || form == 12;
         CHECK(lindenscoop_start(form, &listener) == (serial ? LINDENSCOOP_OK : LINDENSCOOP_UNKNOWN_FORM));
         CHECK(lindenscoop_start(LINDENSCOOP_RACAL, &listener) == LINDENSCOOP_OK);
         listener.bytes[LINDENSCOOP_LISTENER_BYTES - 1] = last;
@@ -446,6 +424,5 @@ int main(void)
     check_frames_refused();
     check_days();
     check_every_day();
-    printf("fields: %u passed, %u failed\n", passed, failed);
-    return failed ? 1 : 0;
+    return told("fields");
 }

@@ -91,6 +91,24 @@ static uint32_t sometimes(uint32_t usual, uint32_t other)
     return draw(40) ? usual : other;
 }
 
+/* A fraction of any kind, mostly within its range */
+static void random_fraction(lindenscoop_record *r)
+{
+    static const uint32_t parts[] = {1, 1000, 10000000, 100};
+    r->fraction = sometimes(1 + draw(3), draw(6));
+    r->fraction_units = sometimes(draw(parts[r->fraction & 3]), draw(10000001));
+}
+
+/* A position of either kind, at times beyond the poles and the date line */
+static void random_position(lindenscoop_record *r)
+{
+    int32_t over = (int32_t)sometimes(0, draw(3));
+    if (draw(2))
+        lindenscoop_set_position(r, (int32_t)draw(1800001) - 900000 - over, (int32_t)draw(3600001) - 1800000 + over, sometimes(draw(10000), 10000));
+    else
+        lindenscoop_set_position_minutes(r, (int32_t)draw(1080001) - 540000 - over, (int32_t)draw(2160001) - 1080000 + over);
+}
+
 static void random_record(lindenscoop_record *r)
 {
     uint32_t flags[6], numbers[NUMBERS];
@@ -103,8 +121,7 @@ static void random_record(lindenscoop_record *r)
     r->month = sometimes(1 + draw(12), draw(14));
     r->day = 1 + draw(28 + !draw(20) * 4);
     r->day_of_year = 1 + draw(366);
-    r->fraction = sometimes(1 + draw(2), draw(5));
-    r->fraction_value = sometimes(draw(1000), draw(10000001));
+    random_fraction(r);
     r->channel = sometimes(1, draw(4));
     r->channel_number = sometimes(draw(2), 2);
     for (int i = 0; i < 6; i++)
@@ -116,7 +133,7 @@ static void random_record(lindenscoop_record *r)
     r->dsp = sometimes(1 + draw(2), draw(4));
     r->lsp = sometimes(1 + draw(2), draw(4));
     lindenscoop_set_offset(r, (int32_t)draw(57) * 30 - 840);
-    lindenscoop_set_position(r, (int32_t)draw(1800001) - 900000, (int32_t)draw(3600001) - 1800000, sometimes(draw(10000), 10000));
+    random_position(r);
     memcpy(numbers, r, sizeof numbers);
     if (!draw(30))
         numbers[draw(NUMBERS)] = draw(2) ? draw(3) : 0xffffffffu - draw(2) * 0x7fffffffu;
@@ -125,11 +142,11 @@ static void random_record(lindenscoop_record *r)
 
 static uint32_t random_form(void)
 {
-    return sometimes(1 + draw(11), draw(2) ? draw(17) : 0xffffffffu);
+    return sometimes(1 + draw(12), draw(2) ? draw(17) : 0xffffffffu);
 }
 
 /* Those that search, listener and marks take */
-static const uint32_t serial_forms[] = {1, 2, 3, 4, 5, 6, 7, 10};
+static const uint32_t serial_forms[] = {1, 2, 3, 4, 5, 6, 7, 10, 12};
 
 static uint32_t serial_form(void)
 {
@@ -205,7 +222,7 @@ static void call_read(void)
     size_t numbers_length = cut(NUMBERS);
     uint8_t *input = lend(0, bytes, length);
     uint32_t *numbers = lend(1, NULL, 4 * numbers_length);
-    uint32_t answer = seen(lindenscoop_read_raw(form, input, length, numbers, numbers_length));
+    uint32_t answer = seen(lindenscoop_read_numbers(form, input, length, numbers, numbers_length));
     CHECK(memcmp(input, bytes, length) == 0);
     CHECK((answer == 10) == (numbers_length < NUMBERS));
     if (answer == 10)
@@ -216,10 +233,21 @@ static void call_read(void)
     CHECK(answer == 10 || is_filled(numbers + NUMBERS, 4 * (numbers_length - NUMBERS)));
 }
 
+/* What was written comes back with its time, and its fraction and position are absent or the same ones, of the same kinds */
+static void check_back(uint32_t form, const lindenscoop_record *r, const uint8_t *out, size_t written)
+{
+    lindenscoop_record back;
+    CHECK(lindenscoop_read(form, out, written, &back) == 0 && back.hour == r->hour && back.minute == r->minute && back.second == r->second);
+    CHECK(back.fraction == 0 ? form != 9 || r->fraction == 0 : back.fraction == r->fraction && back.fraction_units == r->fraction_units);
+    CHECK(back.position == 0 ? form != 9 || r->position == 0 : back.position == r->position);
+    CHECK(back.position == 0 || (back.latitude_units == r->latitude_units && back.longitude_units == r->longitude_units));
+    CHECK(back.altitude_metres == (back.position == LINDENSCOOP_DEGREES ? r->altitude_metres : 0));
+}
+
 /* What stands behind the numbers of a record makes no difference */
 static void call_write(void)
 {
-    lindenscoop_record r, back;
+    lindenscoop_record r;
     uint32_t there[NUMBERS + 2];
     uint8_t alone[200];
     size_t written_there = 77, written_alone = 77, numbers_length = cut(NUMBERS), length = draw(3) ? 118 + draw(60) : draw(120);
@@ -230,13 +258,13 @@ static void call_write(void)
     const uint32_t *numbers = lend(0, there, 4 * numbers_length);
     uint8_t *out = lend(1, NULL, length);
     size_t *written = lend(2, &written_there, sizeof written_there);
-    uint32_t answer = seen(lindenscoop_write_raw(form, numbers, numbers_length, out, length, written));
+    uint32_t answer = seen(lindenscoop_write_numbers(form, numbers, numbers_length, out, length, written));
     CHECK(answer == (numbers_length < NUMBERS ? 10 : lindenscoop_write(form, &r, alone, length, &written_alone)));
     CHECK(memcmp(numbers, there, 4 * numbers_length) == 0);
     CHECK(answer == 0 ? *written == written_alone && memcmp(out, alone, *written) == 0 : *written == 0);
     CHECK(*written <= length && is_filled(out + *written, length - *written));
     if (answer == 0)
-        CHECK(lindenscoop_read(form, out, *written, &back) == 0 && back.hour == r.hour && back.minute == r.minute && back.second == r.second);
+        check_back(form, &r, out, *written);
 }
 
 static void call_search(void)
@@ -249,7 +277,7 @@ static void call_search(void)
     uint8_t *input = lend(0, bytes, length);
     uint32_t *numbers = lend(1, NULL, 4 * numbers_length);
     size_t *place = lend(2, &place_there, sizeof place_there);
-    uint32_t answer = seen(lindenscoop_search_raw(form, input, length, start, place, numbers, numbers_length));
+    uint32_t answer = seen(lindenscoop_search_numbers(form, input, length, start, place, numbers, numbers_length));
     CHECK((answer == 10) == (numbers_length < NUMBERS));
     CHECK((answer == 1) == (answer != 10 && !is_serial(form)));
     CHECK(answer == 0 ? *place >= start && *place < length : *place == 0);
@@ -298,7 +326,7 @@ static void call_feed(void)
     uint8_t *input = lend(1, bytes, length);
     uint32_t *numbers = lend(2, NULL, 4 * numbers_length);
     size_t *used = lend(3, &used_there, sizeof used_there);
-    answer = seen(lindenscoop_feed_all_raw(state, state_length, input, length, used, numbers, numbers_length));
+    answer = seen(lindenscoop_feed_all_numbers(state, state_length, input, length, used, numbers, numbers_length));
     if (answer == 10) {
         CHECK(state_length < STATE || numbers_length < NUMBERS);
         CHECK(*used == 0 && memcmp(state, before, state_length) == 0 && is_filled(numbers, 4 * numbers_length));
@@ -322,7 +350,7 @@ static void call_feed_byte(void)
     random_state(serial_form(), before);
     uint8_t *state = lend(0, before, state_length);
     uint32_t *numbers = lend(1, NULL, 4 * numbers_length);
-    uint32_t answer = seen(lindenscoop_feed_raw(state, state_length, (uint8_t)draw(256), numbers, numbers_length));
+    uint32_t answer = seen(lindenscoop_feed_numbers(state, state_length, (uint8_t)draw(256), numbers, numbers_length));
     CHECK((answer == 10) == (state_length < STATE || numbers_length < NUMBERS));
     CHECK(answer == 100 || is_filled(numbers, 4 * numbers_length));
     CHECK((answer != 10 && answer != 11) || memcmp(state, before, state_length) == 0);
@@ -341,11 +369,11 @@ static void call_overlap(void)
         return;
     lindenscoop_start(form, &listener);
     memset(numbers, FILLING, sizeof numbers);
-    CHECK(lindenscoop_feed_all_raw(listener.bytes, STATE, bytes, length - 1, &used, numbers, NUMBERS) == 0 && used == length - 1);
+    CHECK(lindenscoop_feed_all_numbers(listener.bytes, STATE, bytes, length - 1, &used, numbers, NUMBERS) == 0 && used == length - 1);
     CHECK(listener.bytes[KEPT] == length - 1 && listener.bytes[DISTANCE] == length);
     listener.bytes[DISTANCE] = (uint8_t)(draw(2) ? length - 1 : draw((uint32_t)length - 1));
     used = listener.bytes[DISTANCE];
-    answer = seen(lindenscoop_feed_raw(listener.bytes, STATE, bytes[length - 1], numbers, NUMBERS));
+    answer = seen(lindenscoop_feed_numbers(listener.bytes, STATE, bytes[length - 1], numbers, NUMBERS));
     CHECK(answer == (used < length - 1 ? 13u : 100u));
     CHECK(answer == 13 ? is_filled(numbers, sizeof numbers) && listener.bytes[DISTANCE] == used + 1 : memcmp(numbers, &record, sizeof record) == 0 && listener.bytes[DISTANCE] == 0);
 }
@@ -399,7 +427,7 @@ static void call_with_null(void)
     lindenscoop_listener listener;
     size_t n = 77;
     random_record(&r);
-    CHECK(lindenscoop_read(1 + draw(11), NULL, 0, &r) == 2);
+    CHECK(lindenscoop_read(1 + draw(12), NULL, 0, &r) == 2);
     CHECK(lindenscoop_search(serial_form(), NULL, 0, draw(3), &n, &r) == 12 && n == 0);
     CHECK(lindenscoop_write(5, &r, NULL, 0, &n) == 8 && n == 0);
     CHECK(lindenscoop_start(serial_form(), &listener) == 0);

@@ -22,12 +22,12 @@ static size_t length, number;
 static uint32_t numbers[LINDENSCOOP_RECORD_NUMBERS], days;
 
 static void call_nothing(void) {}
-static void call_read(void) { lindenscoop_read_raw(form, input, length, numbers, 29); }
-static void call_write(void) { lindenscoop_write_raw(form, numbers, 29, out, sizeof out, &number); }
-static void call_search(void) { lindenscoop_search_raw(form, input, length, 0, &number, numbers, 29); }
+static void call_read(void) { lindenscoop_read_numbers(form, input, length, numbers, 29); }
+static void call_write(void) { lindenscoop_write_numbers(form, numbers, 29, out, sizeof out, &number); }
+static void call_search(void) { lindenscoop_search_numbers(form, input, length, 0, &number, numbers, 29); }
 static void call_start(void) { lindenscoop_start_raw(form, state, sizeof state); }
-static void call_feed(void) { lindenscoop_feed_raw(state, sizeof state, input[number], numbers, 29); }
-static void call_feed_all(void) { lindenscoop_feed_all_raw(state, sizeof state, input, length, &number, numbers, 29); }
+static void call_feed(void) { lindenscoop_feed_numbers(state, sizeof state, input[number], numbers, 29); }
+static void call_feed_all(void) { lindenscoop_feed_all_numbers(state, sizeof state, input, length, &number, numbers, 29); }
 static void call_mark(void) { lindenscoop_mark_raw(form, input, length, out, sizeof out); }
 static void call_day_number(void) { lindenscoop_day_number_raw(numbers[4], numbers[5], numbers[6], &days); }
 
@@ -63,7 +63,7 @@ static void run_all(void)
     run(READ);
     run(DAY_NUMBER);
     run(WRITE);
-    for (form = 1; form <= 11; form++)
+    for (form = 1; form <= 12; form++)
         run(WRITE);
 }
 

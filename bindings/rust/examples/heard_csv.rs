@@ -10,7 +10,7 @@ use std::fs::File;
 use std::io::{self, BufWriter, Read, Write};
 use std::process::ExitCode;
 
-use lindenscoop::{heard, Date, Form, Fraction, Record};
+use lindenscoop::{heard, Date, Form, Fraction, Position, Record};
 
 const HEADER: &str = include!("../../heard_csv.columns");
 
@@ -43,14 +43,41 @@ fn offset(minutes: i32) -> String {
     format!("{sign}{:02}:{:02}", size / 60, size % 60)
 }
 
-/// Ten-thousandths of a degree as degrees.
-fn degrees(value: i32) -> String {
+/// A number of hundredths or ten-thousandths, by its digits behind the point.
+fn angle(value: i32, digits: usize) -> String {
     let (sign, size) = (if value < 0 { "-" } else { "" }, value.unsigned_abs());
-    format!("{sign}{}.{:04}", size / 10_000, size % 10_000)
+    let parts = 10_u32.pow(digits as u32);
+    format!("{sign}{}.{:02$}", size / parts, size % parts, digits)
+}
+
+/// Latitude and longitude in degrees with the altitude, and both in minutes; those of the kind that was not sent are empty.
+fn position(position: Option<Position>) -> ([String; 3], [String; 2]) {
+    let (mut degrees, mut minutes) = (<[String; 3]>::default(), <[String; 2]>::default());
+    match position {
+        None => {}
+        Some(Position::Degrees {
+            latitude,
+            longitude,
+            altitude,
+        }) => {
+            degrees = [
+                angle(latitude, 4),
+                angle(longitude, 4),
+                altitude.to_string(),
+            ]
+        }
+        Some(Position::Minutes {
+            latitude,
+            longitude,
+        }) => minutes = [angle(latitude, 2), angle(longitude, 2)],
+    }
+    (degrees, minutes)
 }
 
 fn row(r: &Record) -> String {
     let [full, day_of_year] = date(r.date);
+    let ([latitude, longitude, altitude], [latitude_minutes, longitude_minutes]) =
+        position(r.position);
     [
         full,
         day_of_year,
@@ -64,11 +91,13 @@ fn row(r: &Record) -> String {
         flag(r.change),
         flag(r.leap),
         cell(r.offset.map(offset)),
-        cell(r.position.map(|p| degrees(p.latitude))),
-        cell(r.position.map(|p| degrees(p.longitude))),
-        cell(r.position.map(|p| p.altitude)),
+        latitude,
+        longitude,
+        altitude,
         flag(r.dsp),
         flag(r.lsp),
+        latitude_minutes,
+        longitude_minutes,
     ]
     .join(",")
 }

@@ -13,14 +13,14 @@ pub type State = [u8; STATE_BYTES];
 pub const HANDED_OUT: u32 = 100;
 
 extern "C" {
-    fn lindenscoop_read_raw(
+    fn lindenscoop_read_numbers(
         form: u32,
         input: *const u8,
         input_length: usize,
         numbers: *mut u32,
         numbers_length: usize,
     ) -> u32;
-    fn lindenscoop_write_raw(
+    fn lindenscoop_write_numbers(
         form: u32,
         numbers: *const u32,
         numbers_length: usize,
@@ -28,7 +28,7 @@ extern "C" {
         out_length: usize,
         written: *mut usize,
     ) -> u32;
-    fn lindenscoop_search_raw(
+    fn lindenscoop_search_numbers(
         form: u32,
         bytes: *const u8,
         bytes_length: usize,
@@ -38,14 +38,14 @@ extern "C" {
         numbers_length: usize,
     ) -> u32;
     fn lindenscoop_start_raw(form: u32, state: *mut u8, state_length: usize) -> u32;
-    fn lindenscoop_feed_raw(
+    fn lindenscoop_feed_numbers(
         state: *mut u8,
         state_length: usize,
         byte: u8,
         numbers: *mut u32,
         numbers_length: usize,
     ) -> u32;
-    fn lindenscoop_feed_all_raw(
+    fn lindenscoop_feed_all_numbers(
         state: *mut u8,
         state_length: usize,
         bytes: *const u8,
@@ -67,7 +67,7 @@ extern "C" {
 pub fn read(form: u32, input: &[u8]) -> (u32, FlatRecord) {
     let mut numbers = [0; RECORD_NUMBERS];
     let number = unsafe {
-        lindenscoop_read_raw(
+        lindenscoop_read_numbers(
             form,
             input.as_ptr(),
             input.len(),
@@ -81,7 +81,7 @@ pub fn read(form: u32, input: &[u8]) -> (u32, FlatRecord) {
 pub fn write(form: u32, numbers: &FlatRecord, out: &mut [u8]) -> (u32, usize) {
     let mut written = 0;
     let number = unsafe {
-        lindenscoop_write_raw(
+        lindenscoop_write_numbers(
             form,
             numbers.as_ptr(),
             RECORD_NUMBERS,
@@ -96,7 +96,7 @@ pub fn write(form: u32, numbers: &FlatRecord, out: &mut [u8]) -> (u32, usize) {
 pub fn search(form: u32, bytes: &[u8], start: usize) -> (u32, usize, FlatRecord) {
     let (mut place, mut numbers) = (0, [0; RECORD_NUMBERS]);
     let number = unsafe {
-        lindenscoop_search_raw(
+        lindenscoop_search_numbers(
             form,
             bytes.as_ptr(),
             bytes.len(),
@@ -116,7 +116,7 @@ pub fn start(form: u32, state: &mut State) -> u32 {
 pub fn feed(state: &mut State, byte: u8) -> (u32, FlatRecord) {
     let mut numbers = [0; RECORD_NUMBERS];
     let number = unsafe {
-        lindenscoop_feed_raw(
+        lindenscoop_feed_numbers(
             state.as_mut_ptr(),
             STATE_BYTES,
             byte,
@@ -130,7 +130,7 @@ pub fn feed(state: &mut State, byte: u8) -> (u32, FlatRecord) {
 pub fn feed_all(state: &mut State, bytes: &[u8]) -> (u32, usize, FlatRecord) {
     let (mut used, mut numbers) = (0, [0; RECORD_NUMBERS]);
     let number = unsafe {
-        lindenscoop_feed_all_raw(
+        lindenscoop_feed_all_numbers(
             state.as_mut_ptr(),
             STATE_BYTES,
             bytes.as_ptr(),

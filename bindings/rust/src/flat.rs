@@ -24,6 +24,65 @@ fn signed(negative: u32, magnitude: u32) -> i32 {
     }
 }
 
+fn fraction_numbers(fraction: Option<Fraction>) -> [u32; 2] {
+    match fraction {
+        None => [0, 0],
+        Some(Fraction::Thousandths(value)) => [1, value],
+        Some(Fraction::TenMillionths(value)) => [2, value],
+        Some(Fraction::Hundredths(value)) => [3, value],
+    }
+}
+
+fn fraction_of(kind: u32, value: u32) -> Option<Fraction> {
+    match kind {
+        0 => None,
+        1 => Some(Fraction::Thousandths(value)),
+        2 => Some(Fraction::TenMillionths(value)),
+        3 => Some(Fraction::Hundredths(value)),
+        // of a library that is newer than this crate; any kind in its place would be a wrong number
+        kind => panic!("the library stored a fraction of kind {kind}"),
+    }
+}
+
+/// Kind, sign and magnitude of latitude and longitude, altitude; a position in minutes has none.
+fn position_numbers(position: Option<Position>) -> [u32; 6] {
+    let numbers = |kind, latitude: i32, longitude: i32, altitude| {
+        let (south, west) = (u32::from(latitude < 0), u32::from(longitude < 0));
+        let (north, east) = (latitude.unsigned_abs(), longitude.unsigned_abs());
+        [kind, south, north, west, east, altitude]
+    };
+    match position {
+        None => [0; 6],
+        Some(Position::Degrees {
+            latitude,
+            longitude,
+            altitude,
+        }) => numbers(1, latitude, longitude, altitude),
+        Some(Position::Minutes {
+            latitude,
+            longitude,
+        }) => numbers(2, latitude, longitude, 0),
+    }
+}
+
+fn position_of(numbers: [u32; 6]) -> Option<Position> {
+    let [kind, south, north, west, east, altitude] = numbers;
+    let (latitude, longitude) = (signed(south, north), signed(west, east));
+    match kind {
+        0 => None,
+        1 => Some(Position::Degrees {
+            latitude,
+            longitude,
+            altitude,
+        }),
+        2 => Some(Position::Minutes {
+            latitude,
+            longitude,
+        }),
+        kind => panic!("the library stored a position of kind {kind}"),
+    }
+}
+
 impl Record {
     /// The numbers in which the record crosses.
     pub(crate) fn encode(&self) -> FlatRecord {
@@ -36,11 +95,7 @@ impl Record {
             }
             Some(Date::DayOfYear(day)) => [n[3], n[7]] = [2, day],
         }
-        match self.fraction {
-            None => {}
-            Some(Fraction::Thousandths(value)) => [n[8], n[9]] = [1, value],
-            Some(Fraction::TenMillionths(value)) => [n[8], n[9]] = [2, value],
-        }
+        [n[8], n[9]] = fraction_numbers(self.fraction);
         if let Some(channel) = self.channel {
             [n[10], n[11]] = [1, channel];
         }
@@ -58,14 +113,7 @@ impl Record {
         if let Some(offset) = self.offset {
             [n[18], n[19], n[20]] = [1, u32::from(offset < 0), offset.unsigned_abs()];
         }
-        if let Some(p) = self.position {
-            [n[21], n[22], n[23]] = [1, u32::from(p.latitude < 0), p.latitude.unsigned_abs()];
-            [n[24], n[25], n[26]] = [
-                u32::from(p.longitude < 0),
-                p.longitude.unsigned_abs(),
-                p.altitude,
-            ];
-        }
+        n[21..27].copy_from_slice(&position_numbers(self.position));
         [n[27], n[28]] = [flag(self.dsp), flag(self.lsp)];
         n
     }
@@ -85,11 +133,7 @@ impl Record {
                 }),
                 _ => Some(Date::DayOfYear(n[7])),
             },
-            fraction: match n[8] {
-                0 => None,
-                1 => Some(Fraction::Thousandths(n[9])),
-                _ => Some(Fraction::TenMillionths(n[9])),
-            },
+            fraction: fraction_of(n[8], n[9]),
             channel: (n[10] != 0).then_some(n[11]),
             sync: flag_from(n[12]),
             fix: flag_from(n[13]),
@@ -98,11 +142,7 @@ impl Record {
             change: flag_from(n[16]),
             leap: flag_from(n[17]),
             offset: (n[18] != 0).then(|| signed(n[19], n[20])),
-            position: (n[21] != 0).then(|| Position {
-                latitude: signed(n[22], n[23]),
-                longitude: signed(n[24], n[25]),
-                altitude: n[26],
-            }),
+            position: position_of([n[21], n[22], n[23], n[24], n[25], n[26]]),
             dsp: flag_from(n[27]),
             lsp: flag_from(n[28]),
         }

@@ -79,15 +79,16 @@ forms! {
     BLOCK = 9, "block", 174, "The block: text with a line for each field.";
     SAT = 10, "sat", 29, "SAT";
     C37118 = 11, "c37118", 100, "The IEEE1344 frame with the sign of IEEE C37.118, 1 for an offset below zero.";
+    RMC = 12, "rmc", 65, "The NMEA RMC string of 65 bytes, with the position in minutes.";
 }
 
 impl Form {
-    /// Whether search and listener take the form: 1 to 7 and 10.
+    /// Whether search and listener take the form: 1 to 7, 10 and 12.
     ///
     /// ```
     /// use lindenscoop::Form;
     ///
-    /// assert!(Form::RACAL.is_serial() && Form::SAT.is_serial());
+    /// assert!(Form::RACAL.is_serial() && Form::SAT.is_serial() && Form::RMC.is_serial());
     /// assert!(!Form::FRAME.is_serial() && !Form::BLOCK.is_serial() && !Form::C37118.is_serial());
     /// ```
     pub fn is_serial(self) -> bool {

@@ -34,7 +34,7 @@ fn answer(number: u32, numbers: &FlatRecord) -> Result<Option<Record>, Refusal> 
 }
 
 impl Listener {
-    /// Starts a listener for a serial form, 1 to 7 or 10. Any other is refused with [`Refusal::UnknownForm`].
+    /// Starts a listener for a serial form, 1 to 7, 10 or 12. Any other is refused with [`Refusal::UnknownForm`].
     pub fn new(form: Form) -> Result<Listener, Refusal> {
         let mut state = [0; ffi::STATE_BYTES];
         match ffi::start(form.0, &mut state) {

@@ -56,7 +56,7 @@ impl Date {
     }
 }
 
-/// A fraction of a second; one kind is never converted into the other. More kinds will come, so a `match` has an arm for any
+/// A fraction of a second; one kind is never converted into another. More kinds may come, so a `match` has an arm for any
 /// other one, or the fraction is taken as [`value`](Fraction::value) and [`digits`](Fraction::digits):
 ///
 /// ```
@@ -64,11 +64,14 @@ impl Date {
 ///
 /// let fraction = Fraction::Thousandths(7);
 /// assert_eq!(format!("0.{:01$}", fraction.value(), fraction.digits()), "0.007");
+/// let fraction = Fraction::Hundredths(7);
+/// assert_eq!(format!("0.{:01$}", fraction.value(), fraction.digits()), "0.07");
 /// ```
 ///
 /// ```compile_fail,E0004
 /// fn digits(fraction: lindenscoop::Fraction) -> usize {
 ///     match fraction {
+///         lindenscoop::Fraction::Hundredths(_) => 2,
 ///         lindenscoop::Fraction::Thousandths(_) => 3,
 ///         lindenscoop::Fraction::TenMillionths(_) => 7,
 ///     }
@@ -77,6 +80,8 @@ impl Date {
 #[derive(Clone, Copy, Debug, PartialEq, Eq, Hash)]
 #[non_exhaustive]
 pub enum Fraction {
+    /// 0..=99
+    Hundredths(u32),
     /// 0..=999
     Thousandths(u32),
     /// 0..=9_999_999
@@ -87,25 +92,69 @@ impl Fraction {
     /// The number that was sent; of the second it is this over 10 to the power of [`digits`](Fraction::digits).
     pub fn value(self) -> u32 {
         match self {
-            Fraction::Thousandths(value) | Fraction::TenMillionths(value) => value,
+            Fraction::Hundredths(value)
+            | Fraction::Thousandths(value)
+            | Fraction::TenMillionths(value) => value,
         }
     }
 
-    /// How many digits were sent behind the point: 3 or 7.
+    /// How many digits were sent behind the point: 2, 3 or 7.
     pub fn digits(self) -> usize {
         match self {
+            Fraction::Hundredths(_) => 2,
             Fraction::Thousandths(_) => 3,
             Fraction::TenMillionths(_) => 7,
         }
     }
 }
 
-/// Ten-thousandths of a degree, north and east positive, and metres.
+/// A position as it was sent, north and east positive; one kind is never converted into the other, and the number of one is not
+/// the number of the other:
+///
+/// ```
+/// use lindenscoop::{read, Form, Position};
+///
+/// let string = b"$GPRMC,120000.00,A,4721.00,N,00803.75,E,0.0,0.0,010124,0.0,E*54\r\n";
+/// match read(Form::RMC, string)?.position {
+///     Some(Position::Degrees { latitude, .. }) => println!("{} ten-thousandths of a degree", latitude),
+///     Some(Position::Minutes { latitude, .. }) => assert_eq!(latitude, (47 * 60 + 21) * 100),
+///     None => println!("not sent"),
+/// }
+/// # Ok::<(), lindenscoop::Refusal>(())
+/// ```
+///
+/// Until form 12 came a position had one kind, in degrees, and was a struct. Code from then does not compile, so that no minute is
+/// read as a degree; it names the kind that it takes:
+///
+/// ```compile_fail,E0609
+/// fn north(position: lindenscoop::Position) -> i32 {
+///     position.latitude
+/// }
+/// ```
+///
+/// ```compile_fail,E0574
+/// let here = lindenscoop::Position { latitude: 473_500, longitude: 80_625, altitude: 431 };
+/// ```
+///
+/// ```compile_fail,E0004
+/// use lindenscoop::Position;
+///
+/// fn north(position: Position) -> i32 {
+///     match position {
+///         Position::Degrees { latitude, .. } => latitude,
+///     }
+/// }
+/// ```
 #[derive(Clone, Copy, Debug, PartialEq, Eq, Hash)]
-pub struct Position {
-    pub latitude: i32,
-    pub longitude: i32,
-    pub altitude: u32,
+pub enum Position {
+    /// Latitude -900_000..=900_000 and longitude -1_800_000..=1_800_000 in ten-thousandths of a degree, altitude 0..=9_999 metres.
+    Degrees {
+        latitude: i32,
+        longitude: i32,
+        altitude: u32,
+    },
+    /// Latitude -540_000..=540_000 and longitude -1_080_000..=1_080_000 in hundredths of a minute of arc; there is no altitude.
+    Minutes { latitude: i32, longitude: i32 },
 }
 
 /// A record. Its default is the empty record: time 00:00:00 and all else absent.

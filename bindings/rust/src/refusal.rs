@@ -42,10 +42,10 @@ refusals! {
     WrongLength = 2, "the input is not as long as the form";
     WrongByte = 3, "a fixed byte, digit, letter, padding, mark, key or spelling is wrong";
     OutOfRange = 4, "a number is outside its range, or there is no such date";
-    Disagreement = 5, "two parts disagree: weekday and date, `L` and second 60, seconds of the day and time, a minus or a frame's sign 1 on a zero, utc and summer both yes";
-    WrongChecksum = 6, "the SPA sum or the frame's parity is wrong";
+    Disagreement = 5, "two parts disagree: weekday and date, `L` and second 60, seconds of the day and time, a minus, `S`, `W` or a frame's sign 1 on a zero, utc and summer both yes";
+    WrongChecksum = 6, "the SPA or RMC sum or the frame's parity is wrong";
     BadRecord = 7, "the record to be written is bad";
-    MissingField = 8, "a field that the form carries is absent or of the other kind";
+    MissingField = 8, "a field that the form carries is absent or of another kind";
     NotExpressible = 9, "the form has no letter for the record's values";
     ShortBuffer = 10, "the buffer is shorter than the output";
     BadState = 11, "a listener's state that no listener has: another version or form, too many bytes, too large a distance";

@@ -18,7 +18,7 @@ use crate::refusal::Refusal;
 /// assert_eq!(seconds, [0, 1]);
 /// ```
 ///
-/// A form that is not serial, 1 to 7 or 10, is refused, as by [`heard`]:
+/// A form that is not serial, 1 to 7, 10 or 12, is refused, as by [`heard`]:
 ///
 /// ```
 /// use lindenscoop::{telegrams, Form, Refusal};
@@ -83,7 +83,7 @@ pub fn mark(form: Form, bytes: &[u8], marks: &mut [u8]) -> Result<(), Refusal> {
 /// }
 /// ```
 ///
-/// A form that is not serial, 1 to 7 or 10, is refused, before anything is read:
+/// A form that is not serial, 1 to 7, 10 or 12, is refused, before anything is read:
 ///
 /// ```
 /// use lindenscoop::{heard, Form, Refusal};

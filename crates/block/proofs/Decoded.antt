@@ -1,5 +1,5 @@
 -- What two layouts tell one behind the other: each field is told by the layout that has its slots.
-use Rattle.cond.proofs.Kit.{[], _&&_, _++_, _∷_, _≡_, Bool, false, getD, List, refl, true, ℕ}
+use Rattle.cond.proofs.Kit.{[], _++_, _∷_, _≡_, Bool, false, getD, List, refl, true, ℕ}
 use Rattle.cond.specs.Pick.{pick}
 use Rattle.record.specs.declared.sign.SignRule.{SignRule}
 use Rattle.record.specs.declared.sign.SignRule.the-variants.{OneAbove, OneBelow}
@@ -7,12 +7,11 @@ use Rattle.forms.specs.Carries.{carriesOf}
 use Rattle.forms.specs.Fields.Channel.{decodeChannel}
 use Rattle.forms.specs.Fields.Date.{DateKind, decodeDate, fullDate, noDate, ordinalDate, yearAndDay}
 use Rattle.forms.specs.Fields.Flag.{FlagKind, byQuality, firstOfTwo, decodeFlag, noFlag, ownLetter, secondOfTwo}
-use Rattle.forms.specs.Fields.Fraction.{FractionKind, decodeFraction, noFraction, tenMillionths, thousandths}
+use Rattle.forms.specs.Fields.Fraction.{FractionKind, decodeFraction, hundredths, noFraction, tenMillionths, thousandths}
 use Rattle.forms.specs.Fields.Offset.{OffsetKind, inHalfHours, inMinutes, isOffset, decodeMinutes, noOffset, decodeOffset, offsetConsistent, signRule, signSlot, toldBy, toldSign}
-use Rattle.forms.specs.Fields.Position.{decodeLatitude, decodeLongitude, decodePosition}
-use Rattle.forms.specs.Fields.Sign.{signConsistent}
+use Rattle.forms.specs.Fields.Position.{PositionKind, arcInRange, decodePosition, degrees, minutes, noPosition, positionConsistent}
 use Rattle.forms.specs.Places.{Layout, has, layoutWidth, values}
-use Rattle.forms.specs.Slots.{Slot, Values, change, channel, dsp, fix, halfHour, hour, leap, lsp, minute, month, notice, offsetHours, offsetMinutes, ordinal, plus, quality, second, south, summer, sync, tenMillionth, thousandth, utc, west, year, zone}
+use Rattle.forms.specs.Slots.{Slot, Values, altitude, change, channel, dsp, fix, halfHour, hour, hundredth, latitudeMinute, leap, lsp, minute, month, notice, offsetHours, offsetMinutes, ordinal, plus, quality, second, summer, sync, tenMillionth, thousandth, utc, year, zone}
 use Rattle.block_lines.specs.Reading.{changeSlots, dateSlots, decoded, fractionSlots, hasAny, leapSlots, offsetSlots, onto, positionSlots, summerSlots, syncSlots, timeSlots, utcSlots}
 use Rattle.block.proofs.Fields.{field, member, only}
 
@@ -36,6 +35,7 @@ unfolding decodeFraction member
 fraction-only noFraction v = refl
 fraction-only thousandths v = refl
 fraction-only tenMillionths v = refl
+fraction-only hundredths v = refl
 
 channel-only : (t : Bool) (v : Values) → decodeChannel t (only (channel ∷ []) 0 v) ≡ decodeChannel t v
 unfolding decodeChannel member
@@ -53,14 +53,25 @@ unfolding member
 sign-only OneBelow v = refl
 sign-only OneAbove v = refl
 
-position-only : (t : Bool) (v : Values) → decodePosition t (only positionSlots 0 v) ≡ decodePosition t v
+position-only : (k : PositionKind) (v : Values) → decodePosition k (only positionSlots 0 v) ≡ decodePosition k v
 unfolding decodePosition member
-position-only true v = refl
-position-only false v = refl
+position-only noPosition v = refl
+position-only degrees v = refl
+position-only minutes v = refl
+
+place-only : (k : PositionKind) (v : Values) → positionConsistent k (only positionSlots 0 v) ≡ positionConsistent k v
+unfolding member
+place-only noPosition v = refl
+place-only degrees v = refl
+place-only minutes v = refl
 
 -- the kind of an offset by the slots that are there
 abbrev offsetKind : (Slot → Bool) → OffsetKind
 offsetKind h = pick (h halfHour) (inHalfHours (pick (h plus) OneAbove OneBelow)) (pick (h offsetHours) inMinutes noOffset)
+
+-- and of a position
+abbrev positionKind : (Slot → Bool) → PositionKind
+positionKind h = pick (h altitude) degrees (pick (h latitudeMinute) minutes noPosition)
 
 module _ (ps qs : Layout) (s : List ℕ) (a : (n : ℕ) → hasAny qs (getD groups n []) ≡ true → hasAny ps (getD groups n []) ≡ false) where
   number : (n : ℕ) (f : Slot) → ((h : Slot → Bool) (v : Values) → only (getD groups n []) 0 v f ≡ v f)
@@ -82,7 +93,7 @@ module _ (ps qs : Layout) (s : List ℕ) (a : (n : ℕ) → hasAny qs (getD grou
       let minute-is = number 0 minute (λ h v. refl) in
       let second-is = number 0 second (λ h v. refl) in
       let date-is = field ps qs s dateSlots (λ h v. decodeDate (pick (h month) fullDate (pick (h year) yearAndDay (pick (h ordinal) ordinalDate noDate))) v) (λ h v. date-only _ v) (a 1) in
-      let fraction-is = field ps qs s fractionSlots (λ h v. decodeFraction (pick (h thousandth) thousandths (pick (h tenMillionth) tenMillionths noFraction)) v) (λ h v. fraction-only _ v) (a 2) in
+      let fraction-is = field ps qs s fractionSlots (λ h v. decodeFraction (pick (h thousandth) thousandths (pick (h tenMillionth) tenMillionths (pick (h hundredth) hundredths noFraction))) v) (λ h v. fraction-only _ v) (a 2) in
       let channel-is = field ps qs s (channel ∷ []) (λ h v. decodeChannel (h channel) v) (λ h v. channel-only _ v) (a 3) in
       let sync-is = flag 4 (λ h. pick (h sync) ownLetter (pick (h quality) byQuality noFlag)) sync (λ v. v quality) (λ h v. refl) in
       let fix-is = flag 5 (λ h. pick (h fix) ownLetter noFlag) fix (λ v. 0) (λ h v. refl) in
@@ -91,12 +102,13 @@ module _ (ps qs : Layout) (s : List ℕ) (a : (n : ℕ) → hasAny qs (getD grou
       let change-is = flag 8 (λ h. pick (h notice) firstOfTwo (pick (h change) ownLetter noFlag)) change (λ v. v notice) (λ h v. refl) in
       let leap-is = flag 9 (λ h. pick (h notice) secondOfTwo (pick (h leap) ownLetter noFlag)) leap (λ v. v notice) (λ h v. refl) in
       let offset-is = field ps qs s offsetSlots (λ h v. toldBy (signRule (offsetKind h)) (decodeOffset (isOffset (offsetKind h)) (toldSign (offsetKind h) v) (decodeMinutes (offsetKind h) v))) (λ h v. simp (minutes-only, sign-only)) (a 10) in
-      let position-is = field ps qs s positionSlots (λ h v. decodePosition (h south) v) (λ h v. position-only _ v) (a 11) in
+      let position-is = field ps qs s positionSlots (λ h v. decodePosition (positionKind h) v) (λ h v. position-only _ v) (a 11) in
       let dsp-is = flag 12 (λ h. pick (h dsp) ownLetter noFlag) dsp (λ v. 0) (λ h v. refl) in
       let lsp-is = flag 13 (λ h. pick (h lsp) ownLetter noFlag) lsp (λ v. 0) (λ h v. refl) in
       let minutes-is = number 10 offsetMinutes (λ h v. refl) in
       let zone-is = field ps qs s offsetSlots (λ h v. offsetConsistent (offsetKind h) v) (λ h v. simp (minutes-only, sign-only)) (a 10) in
-      let place-is = field ps qs s positionSlots (λ h v. signConsistent (v south) (decodeLatitude v) && signConsistent (v west) (decodeLongitude v)) (λ h v. refl) (a 11) in
+      let place-is = field ps qs s positionSlots (λ h v. positionConsistent (positionKind h) v) (λ h v. place-only (positionKind h) v) (a 11) in
+      let arc-is = field ps qs s positionSlots (λ h v. arcInRange v) (λ h v. refl) (a 11) in
       λ i. record {
         known = record {
           hour = hour-is i;
@@ -119,4 +131,5 @@ module _ (ps qs : Layout) (s : List ℕ) (a : (n : ℕ) → hasAny qs (getD grou
         minutes = minutes-is i;
         zone = zone-is i;
         place = place-is i;
+        arc = arc-is i;
       }

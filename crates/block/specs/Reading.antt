@@ -18,13 +18,13 @@ use Rattle.block_lines.specs.declared.state.State.{State}
 -- "Readers test in the order 1, 2, 3, 6, 4, 5": the last two tests of what the lines told
 unfoldable pub validatedState : State → Reading
 validatedState b =
-    pick (inRange (b .known) && ltb (b .minutes) 60)
+    pick (inRange (b .known) && (b .arc && ltb (b .minutes) 60))
     (pick ((b .zone && b .place) && zoneAgrees (b .known)) (reading.Read (b .known)) (reading.Refused refusal.Disagreement))
     (reading.Refused refusal.OutOfRange)
 
 -- nothing is told before the first line
 abbrev pub nothingDecoded : State
-nothingDecoded = record { known = emptyRecord; minutes = 0; zone = true; place = true }
+nothingDecoded = record { known = emptyRecord; minutes = 0; zone = true; place = true; arc = true }
 
 -- the reading goes on behind a line, with its size and what is told by then; "a .. key or spelling is wrong" without one
 abbrev pub onward : Found → (ℕ → State → Reading) → Reading

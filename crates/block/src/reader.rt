@@ -15,7 +15,7 @@ fn validate(state: State) -> Reading
     ensures { λ x. ⌜ x ≡ validatedState state ⌝ }
 {
     let r = state.known;
-    if r.in_range() & (state.minutes < 60) {
+    if r.in_range() & (state.arc & (state.minutes < 60)) {
         if (state.zone & state.place) & r.zone_agrees() {
             Reading::Read(r)
         } else {
@@ -35,6 +35,7 @@ fn read_lines(s: &[u8]) -> Reading
         minutes: 0,
         zone: true,
         place: true,
+        arc: true,
     };
     let mut at = 0;
     let mut i = 0;

@@ -43,7 +43,9 @@ minus-encoded (offsetIs.Minutes z) = refl
 pub south-encoded : (x : Position) → encodeSouth x ≡ oneIf (isSouth x)
 south-encoded positionIs.Absent = refl
 south-encoded (positionIs.Degrees lat lon alt) = refl
+south-encoded (positionIs.Minutes lat lon) = refl
 
 pub west-encoded : (x : Position) → encodeWest x ≡ oneIf (isWest x)
 west-encoded positionIs.Absent = refl
 west-encoded (positionIs.Degrees lat lon alt) = refl
+west-encoded (positionIs.Minutes lat lon) = refl

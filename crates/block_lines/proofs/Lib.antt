@@ -1,3 +1,4 @@
 pub mod Closed
 pub mod Laid
+pub mod Variant
 pub mod Numbers

@@ -53,7 +53,7 @@ withFlag f x r =
 
 -- what is told so far, and this field
 abbrev pub flagDecoded : Slot → Flag → State → State
-flagDecoded f x b = record { known = withFlag f x (b .known); minutes = b .minutes; zone = b .zone; place = b .place }
+flagDecoded f x b = record { known = withFlag f x (b .known); minutes = b .minutes; zone = b .zone; place = b .place; arc = b .arc }
 
 -- "(`yes`/`no`)", "`-` is absent", by the key
 unfoldable pub flagRead : List ℕ → Slot → List ℕ → State → Found

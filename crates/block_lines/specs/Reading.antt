@@ -9,23 +9,26 @@ use Rattle.spelling.specs.Spelling.{digits, isSpelled, words}
 use Rattle.forms.specs.Block.{Line, variantAt}
 use Rattle.forms.specs.Carries.{carriesOf}
 use Rattle.forms.specs.Fields.Offset.{offsetConsistent}
-use Rattle.forms.specs.Fields.Position.{decodeLatitude, decodeLongitude}
-use Rattle.forms.specs.Fields.Sign.{signConsistent}
+use Rattle.forms.specs.Fields.Position.{arcInRange, positionConsistent}
 use Rattle.forms.specs.Places.{Layout, fixed, has, part, layoutWidth, shape, values}
-use Rattle.forms.specs.Slots.{Slot, Values, altitude, change, channel, day, dsp, fix, halfHour, hour, latitudeDegrees, latitudePart, leap, longitudeDegrees, longitudePart, lsp, minus, minute, month, notice, offsetHours, offsetMinutes, ordinal, plus, quality, second, south, summer, sync, tenMillionth, thousandth, utc, west, year, zone}
+use Rattle.forms.specs.Slots.{Slot, Values, altitude, change, channel, day, dsp, fix, halfHour, hour, hundredth, latitudeDegrees, latitudeHundredth, latitudeMinute}
+use Rattle.forms.specs.Slots.{latitudePart, latitudeWhole, leap, longitudeDegrees, longitudeHundredth, longitudeMinute, longitudePart, longitudeWhole, lsp, minus, minute}
+use Rattle.forms.specs.Slots.{month, notice, offsetHours, offsetMinutes, ordinal, plus, quality, second, south, summer, sync, tenMillionth, thousandth, utc, west, year, zone}
 use Rattle.forms.specs.Decode.{decode}
 use Rattle.block_lines.specs.declared.state.Found.{Found}
 use Rattle.block_lines.specs.declared.state.Found.the-variants as found
 use Rattle.block_lines.specs.declared.state.State.{State}
 
--- what a layout tells where its slots tell v: the record, the offset's minutes alone, and that no minus stands on a zero
+-- what a layout tells where its slots tell v: the record, the offset's minutes alone, that no minus stands on a zero, and that the position's
+-- minutes are in range
 unfoldable pub decoded : Layout → Values → State
 decoded ps v =
     record {
       known = decode (carriesOf ps) v;
       minutes = v offsetMinutes;
       zone = offsetConsistent (carriesOf ps .offset) v;
-      place = signConsistent (v south) (decodeLatitude v) && signConsistent (v west) (decodeLongitude v);
+      place = positionConsistent (carriesOf ps .position) v;
+      arc = arcInRange v;
     }
 
 -- the slots that tell a field
@@ -37,7 +40,7 @@ abbrev pub dateSlots : List Slot
 dateSlots = year ∷ month ∷ day ∷ ordinal ∷ []
 
 abbrev pub fractionSlots : List Slot
-fractionSlots = thousandth ∷ tenMillionth ∷ []
+fractionSlots = thousandth ∷ tenMillionth ∷ hundredth ∷ []
 
 abbrev pub syncSlots : List Slot
 syncSlots = sync ∷ quality ∷ []
@@ -58,7 +61,9 @@ abbrev pub offsetSlots : List Slot
 offsetSlots = minus ∷ plus ∷ offsetHours ∷ offsetMinutes ∷ halfHour ∷ []
 
 abbrev pub positionSlots : List Slot
-positionSlots = south ∷ latitudeDegrees ∷ latitudePart ∷ west ∷ longitudeDegrees ∷ longitudePart ∷ altitude ∷ []
+positionSlots =
+    south ∷ latitudeDegrees ∷ latitudePart ∷ latitudeWhole ∷ latitudeMinute ∷ latitudeHundredth
+    ∷ west ∷ longitudeDegrees ∷ longitudePart ∷ longitudeWhole ∷ longitudeMinute ∷ longitudeHundredth ∷ altitude ∷ []
 
 -- the layout has a place for one of the slots
 unfoldable pub hasAny : Layout → List Slot → Bool
@@ -90,6 +95,7 @@ onto ps x b =
       minutes = pick (hasAny ps offsetSlots) (x .minutes) (b .minutes);
       zone = pick (hasAny ps offsetSlots) (x .zone) (b .zone);
       place = pick (hasAny ps positionSlots) (x .place) (b .place);
+      arc = pick (hasAny ps positionSlots) (x .arc) (b .arc);
     }
 
 -- a line at the head of the bytes, behind lines that told b

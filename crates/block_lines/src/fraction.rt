@@ -34,6 +34,11 @@ pub fn read_fraction(s: &[u8], before: State) -> Found
         let known = Record { fraction, ..r };
         return Found::Line(17, State { known, ..before });
     }
+    if has_number(b"fraction=", 2, s) {
+        let fraction = Fraction::Hundredths(places::number_at(s, 9, 2));
+        let known = Record { fraction, ..r };
+        return Found::Line(12, State { known, ..before });
+    }
     Found::Nothing
 }
 
@@ -45,5 +50,6 @@ pub fn write_fraction(r: Record, out: &mut [u8]) -> usize
         Fraction::Absent => put_word(b"fraction=", b"-", out),
         Fraction::Thousandths(n) => put_number(b"fraction=", 3, n, out),
         Fraction::TenMillionths(n) => put_number(b"fraction=", 7, n, out),
+        Fraction::Hundredths(n) => put_number(b"fraction=", 2, n, out),
     }
 }

@@ -4,6 +4,7 @@ pub mod date;
 pub mod flag;
 pub mod fraction;
 mod line;
+mod minutes;
 pub mod offset;
 pub mod position;
 pub mod state;

@@ -60,7 +60,7 @@ pub fn read_offset(s: &[u8], before: State) -> Found
             known,
             minutes: places::number_at(s, 11, 2),
             zone: consistent_at(s),
-            place: before.place,
+            ..before
         };
         return Found::Line(14, state);
     }

@@ -1,19 +1,18 @@
-// The line of the position.
+// The line of the position, and its value in degrees.
 ghost use mathlib.Core.Path.{_≡_};
-ghost use mathlib.Core.Bool.{true, _&&_};
+ghost use mathlib.Core.Bool.{true};
 ghost use mathlib.Core.List.{[]};
 ghost use Prim.Native.Nat.{_+_, _≤_};
 ghost use lib.ListN.{length, getD};
 ghost use Rattle.forms.specs.Block.{positionLine};
-ghost use Rattle.forms.specs.Fields.Position.{decodeLatitude, decodeLongitude, positionChoice, decodePosition};
-ghost use Rattle.forms.specs.Fields.Sign.{signConsistent};
+ghost use Rattle.forms.specs.Fields.Position.{decodePosition, degrees, positionChoice, positionConsistent};
 ghost use Rattle.forms.specs.Places.{shape, values};
-ghost use Rattle.forms.specs.Slots.{south, west};
 ghost use Rattle.forms.specs.Encode.{encode};
 ghost use Rattle.block_lines.specs.Reading.{degreesAt, lineRead};
 ghost use Rattle.block_lines.specs.Stores.{Laid, degreesStored};
 use crate::line::has_word;
 use crate::line::put_word;
+use crate::minutes;
 use crate::state::Found;
 use crate::state::State;
 use record::Position;
@@ -45,7 +44,7 @@ fn has_position(s: &[u8]) -> bool
 
 fn position_at(s: &[u8]) -> Position
     requires { ⌜ 34 ≤ length (now s) ⌝ }
-    ensures { λ r. ⌜ r ≡ decodePosition true (values (getD positionLine 1 []) 0 (now (s .entry))) ⌝ }
+    ensures { λ r. ⌜ r ≡ decodePosition degrees (values (getD positionLine 1 []) 0 (now (s .entry))) ⌝ }
 {
     let south = s[9] != b'+';
     let west = s[19] != b'+';
@@ -58,7 +57,7 @@ fn position_at(s: &[u8]) -> Position
 
 fn consistent_at(s: &[u8]) -> bool
     requires { ⌜ 34 ≤ length (now s) ⌝ }
-    ensures { λ r. ⌜ r ≡ (signConsistent (values (getD positionLine 1 []) 0 (now (s .entry)) south) (decodeLatitude (values (getD positionLine 1 []) 0 (now (s .entry)))) && signConsistent (values (getD positionLine 1 []) 0 (now (s .entry)) west) (decodeLongitude (values (getD positionLine 1 []) 0 (now (s .entry))))) ⌝ }
+    ensures { λ r. ⌜ r ≡ positionConsistent degrees (values (getD positionLine 1 []) 0 (now (s .entry))) ⌝ }
 {
     places::sign_agrees(s, 9, b'+', places::degrees_at(s, 10))
         & places::sign_agrees(s, 19, b'+', places::degrees_at(s, 20))
@@ -80,6 +79,23 @@ pub fn read_position(s: &[u8], before: State) -> Found
             State {
                 known,
                 place,
+                arc: true,
+                ..before
+            },
+        );
+    }
+    if minutes::has_position(s) {
+        let r = before.known;
+        let position = minutes::position_at(s);
+        let known = Record { position, ..r };
+        let place = minutes::consistent_at(s);
+        let arc = minutes::arcs_in_range(s);
+        return Found::Line(
+            28,
+            State {
+                known,
+                place,
+                arc,
                 ..before
             },
         );
@@ -134,5 +150,9 @@ pub fn write_position(r: Record, out: &mut [u8]) -> usize
             longitude: _,
             altitude: _,
         } => put_position(r, out),
+        Position::Minutes {
+            latitude: _,
+            longitude: _,
+        } => minutes::put_position(r, out),
     }
 }

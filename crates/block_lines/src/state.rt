@@ -9,6 +9,8 @@ pub struct State {
     pub zone: bool,
     // No minus stands on a zero of the position.
     pub place: bool,
+    // The minutes of the position alone are below 60.
+    pub arc: bool,
 }
 
 // The size of a line and what is told with it, or bytes that are no such line.

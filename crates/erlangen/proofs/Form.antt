@@ -10,7 +10,7 @@ use Rattle.forms.specs.Carries.{carriesOf}
 use Rattle.forms.specs.Fields.Date.{weekdayInRange}
 use Rattle.forms.specs.Fields.Flag.{decodeFlag}
 use Rattle.forms.specs.Fields.Offset.{inMinutes, decodeMinutes}
-use Rattle.forms.specs.Fields.Position.{decodeLatitude, decodeLongitude}
+use Rattle.forms.specs.Fields.Position.{decodeLatitude, decodeLongitude, degrees}
 use Rattle.forms.specs.Fields.Time.{leapConsistent, secondsConsistent}
 use Rattle.forms.specs.Form.{carries, numbersInRange, signsConsistent, valuesBy}
 use Rattle.forms.specs.Places.{has, shape, values}
@@ -30,14 +30,14 @@ module _ (s : List ℕ) where
   numbers-of = and-true _
 
   -- beside the weekday `L` and the signs are told twice
-  rest-of : restConsistent erlangen s ≡ (leapConsistent true (valuesBy erlangen s) && signsConsistent inMinutes (valuesBy erlangen s))
+  rest-of : restConsistent erlangen s ≡ (leapConsistent true (valuesBy erlangen s) && signsConsistent inMinutes degrees (valuesBy erlangen s))
   unfolding carriesOf has secondsConsistent zoneAgrees decodeFlag
   rest-of = simp and-true
 
   module _ (l : length s ≡ 66) (t : Bool) (h : t ≡ shape erlangenLayout 0 s) (u : not t ≡ false) (r : Record) (e : r ≡ decode (carries erlangen) (valuesBy erlangen s)) (n : ℕ) (f : n ≡ valuesBy erlangen s weekday) where
     -- a to d tell the ranges, and x to z what is told twice
     pub reads : (a b c d x y z : Bool) → a ≡ dateTimeInRange r → b ≡ restInRange r → c ≡ weekdayInRange true n → d ≡ ltb (valuesBy erlangen s offsetMinutes) 60
-        → x ≡ fallsOn (r .date) n → y ≡ leapConsistent true (valuesBy erlangen s) → z ≡ signsConsistent inMinutes (valuesBy erlangen s)
+        → x ≡ fallsOn (r .date) n → y ≡ leapConsistent true (valuesBy erlangen s) → z ≡ signsConsistent inMinutes degrees (valuesBy erlangen s)
         → Ends erlangen s r ((a && b) && (c && d)) (x && (y && z))
     unfolding has inRange
     reads a b c d x y z i j k m o p q =
@@ -60,7 +60,7 @@ module _ (s : List ℕ) where
         ∙ word-of s 38 1 (letters (32 ∷ 76 ∷ [])) 1 (omega arith) refl (omega arith)
 
     -- a minus, S or W stands on no zero
-    pub signs-of : signsConsistent inMinutes (valuesBy erlangen s)
-        ≡ ((eqb (getD s 24 0) 43 || not (eqb (decodeMinutes inMinutes (valuesBy erlangen s)) 0)) && ((eqb (getD s 48 0) 78 || not (eqb (decodeLatitude (valuesBy erlangen s)) 0)) && (eqb (getD s 58 0) 69 || not (eqb (decodeLongitude (valuesBy erlangen s)) 0))))
+    pub signs-of : signsConsistent inMinutes degrees (valuesBy erlangen s)
+        ≡ ((eqb (getD s 24 0) 43 || not (eqb (decodeMinutes inMinutes (valuesBy erlangen s)) 0)) && ((eqb (getD s 48 0) 78 || not (eqb (decodeLatitude degrees (valuesBy erlangen s)) 0)) && (eqb (getD s 58 0) 69 || not (eqb (decodeLongitude degrees (valuesBy erlangen s)) 0))))
     unfolding signsConsistent values
     signs-of = simp (sign-consistent s 24 (omega arith) 43 45, sign-consistent s 48 (omega arith) 78 83, sign-consistent s 58 (omega arith) 69 87)

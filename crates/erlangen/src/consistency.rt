@@ -3,6 +3,7 @@ ghost use mathlib.Core.Path.{_≡_};
 ghost use mathlib.Core.Bool.{true};
 ghost use lib.ListN.{length};
 ghost use Rattle.forms.specs.Fields.Offset.{inMinutes};
+ghost use Rattle.forms.specs.Fields.Position.{degrees};
 ghost use Rattle.forms.specs.Fields.Time.{leapConsistent};
 ghost use Rattle.forms.specs.Form.{signsConsistent, valuesBy};
 ghost use Rattle.forms.specs.Serial.{erlangen};
@@ -22,7 +23,7 @@ pub(crate) fn leap_agrees(s: &[u8]) -> bool
 // No minus, S or W stands on a zero.
 pub(crate) fn signs_agree(s: &[u8]) -> bool
     requires { ⌜ length (now s) ≡ 66 ⌝ }
-    ensures { λ b. ⌜ b ≡ signsConsistent inMinutes (valuesBy erlangen (now (s .entry))) ⌝ }
+    ensures { λ b. ⌜ b ≡ signsConsistent inMinutes degrees (valuesBy erlangen (now (s .entry))) ⌝ }
 {
     places::sign_agrees(s, 24, b'+', places::minutes_at(s, 25))
         & places::sign_agrees(s, 48, b'N', places::degrees_at(s, 40))

@@ -4,7 +4,7 @@ ghost use mathlib.Core.Bool.{true};
 ghost use lib.ListN.{length};
 ghost use Rattle.forms.specs.Fields.Date.{decodeDate, fullDate};
 ghost use Rattle.forms.specs.Fields.Offset.{inMinutes, decodeMinutes, decodeOffset};
-ghost use Rattle.forms.specs.Fields.Position.{decodePosition};
+ghost use Rattle.forms.specs.Fields.Position.{decodePosition, degrees};
 ghost use Rattle.forms.specs.Form.{carries, readBy, valuesBy};
 ghost use Rattle.forms.specs.Serial.{erlangen};
 ghost use Rattle.forms.specs.Slots.{minus};
@@ -43,7 +43,7 @@ fn offset_at(s: &[u8]) -> Offset
 // North and east are positive.
 fn position_at(s: &[u8]) -> Position
     requires { ⌜ length (now s) ≡ 66 ⌝ }
-    ensures { λ r. ⌜ r ≡ decodePosition true (valuesBy erlangen (now (s .entry))) ⌝ }
+    ensures { λ r. ⌜ r ≡ decodePosition degrees (valuesBy erlangen (now (s .entry))) ⌝ }
 {
     let south = places::byte_at(s, 48) != b'N';
     let west = places::byte_at(s, 58) != b'E';

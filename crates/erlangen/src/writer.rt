@@ -31,7 +31,7 @@ fn has_carried(r: Record) -> bool
         & fields::has_flag(change)
         & fields::has_flag(leap)
         & fields::has_offset(offset)
-        & fields::has_position(position)
+        & fields::has_degrees(position)
 }
 
 // `<STX>dd.mm.yy; w; `

@@ -1,6 +1,6 @@
 // The fraction of a record: there and of its kind, and its number.
 ghost use mathlib.Core.Path.{_≡_};
-ghost use Rattle.forms.specs.Fields.Fraction.{hasFraction, tenMillionths, encodeTenMillionths, thousandths, encodeThousandths};
+ghost use Rattle.forms.specs.Fields.Fraction.{encodeHundredths, encodeTenMillionths, encodeThousandths, hasFraction, hundredths, tenMillionths, thousandths};
 use record::Fraction;
 
 pub fn has_thousandths(fraction: Fraction) -> bool
@@ -10,6 +10,7 @@ pub fn has_thousandths(fraction: Fraction) -> bool
         Fraction::Absent => false,
         Fraction::Thousandths(_) => true,
         Fraction::TenMillionths(_) => false,
+        Fraction::Hundredths(_) => false,
     }
 }
 
@@ -20,6 +21,18 @@ pub fn has_ten_millionths(fraction: Fraction) -> bool
         Fraction::Absent => false,
         Fraction::Thousandths(_) => false,
         Fraction::TenMillionths(_) => true,
+        Fraction::Hundredths(_) => false,
+    }
+}
+
+pub fn has_hundredths(fraction: Fraction) -> bool
+    ensures { λ r. ⌜ r ≡ hasFraction hundredths fraction ⌝ }
+{
+    match fraction {
+        Fraction::Absent => false,
+        Fraction::Thousandths(_) => false,
+        Fraction::TenMillionths(_) => false,
+        Fraction::Hundredths(_) => true,
     }
 }
 
@@ -30,6 +43,7 @@ pub fn thousandths_of(fraction: Fraction) -> u32
         Fraction::Absent => 0,
         Fraction::Thousandths(n) => n,
         Fraction::TenMillionths(_) => 0,
+        Fraction::Hundredths(_) => 0,
     }
 }
 
@@ -40,5 +54,17 @@ pub fn ten_millionths_of(fraction: Fraction) -> u32
         Fraction::Absent => 0,
         Fraction::Thousandths(_) => 0,
         Fraction::TenMillionths(n) => n,
+        Fraction::Hundredths(_) => 0,
+    }
+}
+
+pub fn hundredths_of(fraction: Fraction) -> u32
+    ensures { λ r. ⌜ r ≡ encodeHundredths fraction ⌝ }
+{
+    match fraction {
+        Fraction::Absent => 0,
+        Fraction::Thousandths(_) => 0,
+        Fraction::TenMillionths(_) => 0,
+        Fraction::Hundredths(n) => n,
     }
 }

@@ -4,6 +4,7 @@ ghost use mathlib.Core.Bool.{true};
 ghost use Rattle.forms.specs.Fields.Offset.{hasOffset, encodeMinutes};
 ghost use Rattle.fields.specs.Signs.{isMinus};
 use crate::signed::Signed;
+use crate::signed::apart;
 use record::Offset;
 
 pub fn has_offset(offset: Offset) -> bool
@@ -24,10 +25,7 @@ fn parts(offset: Offset) -> Signed
             minus: false,
             magnitude: 0,
         },
-        Offset::Minutes(z) => Signed {
-            minus: record::sign::is_negative(z),
-            magnitude: record::sign::magnitude(z),
-        },
+        Offset::Minutes(z) => apart(z),
     }
 }
 

@@ -1,13 +1,14 @@
-// The position of a record: there, and the signs and magnitudes of its numbers.
+// The position of a record: there and of its kind, and the signs and magnitudes of its numbers.
 ghost use mathlib.Core.Path.{_≡_};
-ghost use mathlib.Core.Bool.{true};
-ghost use Rattle.forms.specs.Fields.Position.{encodeAltitude, hasPosition, encodeLatitude, encodeLongitude};
+ghost use lib.IntN.{natAbs};
+ghost use Rattle.forms.specs.Fields.Position.{degrees, encodeAltitude, encodeLatitude, encodeLongitude, hasPosition, latitudeOf, longitudeOf, minutes};
 ghost use Rattle.fields.specs.Signs.{isSouth, isWest};
 use crate::signed::Signed;
+use crate::signed::apart;
 use record::Position;
 
-pub fn has_position(position: Position) -> bool
-    ensures { λ r. ⌜ r ≡ hasPosition true position ⌝ }
+pub fn has_degrees(position: Position) -> bool
+    ensures { λ r. ⌜ r ≡ hasPosition degrees position ⌝ }
 {
     match position {
         Position::Absent => false,
@@ -16,12 +17,33 @@ pub fn has_position(position: Position) -> bool
             longitude: _,
             altitude: _,
         } => true,
+        Position::Minutes {
+            latitude: _,
+            longitude: _,
+        } => false,
     }
 }
 
-// The latitude's sign and its magnitude, 0 where there is no position.
+pub fn has_minutes(position: Position) -> bool
+    ensures { λ r. ⌜ r ≡ hasPosition minutes position ⌝ }
+{
+    match position {
+        Position::Absent => false,
+        Position::Degrees {
+            latitude: _,
+            longitude: _,
+            altitude: _,
+        } => false,
+        Position::Minutes {
+            latitude: _,
+            longitude: _,
+        } => true,
+    }
+}
+
+// The latitude's sign, and its magnitude in the unit of its kind, 0 where there is no position.
 fn latitude(position: Position) -> Signed
-    ensures { λ r. ⌜ (r .minus ≡ isSouth position) × (r .magnitude ≡ encodeLatitude position) ⌝ }
+    ensures { λ r. ⌜ (r .minus ≡ isSouth position) × (r .magnitude ≡ natAbs (latitudeOf position)) ⌝ }
 {
     match position {
         Position::Absent => Signed {
@@ -32,10 +54,11 @@ fn latitude(position: Position) -> Signed
             latitude,
             longitude: _,
             altitude: _,
-        } => Signed {
-            minus: record::sign::is_negative(latitude),
-            magnitude: record::sign::magnitude(latitude),
-        },
+        } => apart(latitude),
+        Position::Minutes {
+            latitude,
+            longitude: _,
+        } => apart(latitude),
     }
 }
 
@@ -45,15 +68,38 @@ pub fn is_south(position: Position) -> bool
     latitude(position).minus
 }
 
-pub fn latitude_of(position: Position) -> u32
-    ensures { λ r. ⌜ r ≡ encodeLatitude position ⌝ }
+// The magnitude in the unit of its kind, whichever that is.
+pub fn latitude_units(position: Position) -> u32
+    ensures { λ r. ⌜ r ≡ natAbs (latitudeOf position) ⌝ }
 {
     latitude(position).magnitude
 }
 
-// The longitude's sign and its magnitude, 0 where there is no position.
+// Ten-thousandths of a degree, 0 where the position is not in degrees.
+pub fn latitude_of(position: Position) -> u32
+    ensures { λ r. ⌜ r ≡ encodeLatitude degrees position ⌝ }
+{
+    if has_degrees(position) {
+        latitude_units(position)
+    } else {
+        0
+    }
+}
+
+// Hundredths of a minute, 0 where the position is not in minutes.
+pub fn latitude_in_minutes(position: Position) -> u32
+    ensures { λ r. ⌜ r ≡ encodeLatitude minutes position ⌝ }
+{
+    if has_minutes(position) {
+        latitude_units(position)
+    } else {
+        0
+    }
+}
+
+// The longitude's sign, and its magnitude in the unit of its kind, 0 where there is no position.
 fn longitude(position: Position) -> Signed
-    ensures { λ r. ⌜ (r .minus ≡ isWest position) × (r .magnitude ≡ encodeLongitude position) ⌝ }
+    ensures { λ r. ⌜ (r .minus ≡ isWest position) × (r .magnitude ≡ natAbs (longitudeOf position)) ⌝ }
 {
     match position {
         Position::Absent => Signed {
@@ -64,10 +110,11 @@ fn longitude(position: Position) -> Signed
             latitude: _,
             longitude,
             altitude: _,
-        } => Signed {
-            minus: record::sign::is_negative(longitude),
-            magnitude: record::sign::magnitude(longitude),
-        },
+        } => apart(longitude),
+        Position::Minutes {
+            latitude: _,
+            longitude,
+        } => apart(longitude),
     }
 }
 
@@ -77,10 +124,33 @@ pub fn is_west(position: Position) -> bool
     longitude(position).minus
 }
 
-pub fn longitude_of(position: Position) -> u32
-    ensures { λ r. ⌜ r ≡ encodeLongitude position ⌝ }
+// The magnitude in the unit of its kind, whichever that is.
+pub fn longitude_units(position: Position) -> u32
+    ensures { λ r. ⌜ r ≡ natAbs (longitudeOf position) ⌝ }
 {
     longitude(position).magnitude
+}
+
+// Ten-thousandths of a degree, 0 where the position is not in degrees.
+pub fn longitude_of(position: Position) -> u32
+    ensures { λ r. ⌜ r ≡ encodeLongitude degrees position ⌝ }
+{
+    if has_degrees(position) {
+        longitude_units(position)
+    } else {
+        0
+    }
+}
+
+// Hundredths of a minute, 0 where the position is not in minutes.
+pub fn longitude_in_minutes(position: Position) -> u32
+    ensures { λ r. ⌜ r ≡ encodeLongitude minutes position ⌝ }
+{
+    if has_minutes(position) {
+        longitude_units(position)
+    } else {
+        0
+    }
 }
 
 pub fn altitude_of(position: Position) -> u32
@@ -93,5 +163,9 @@ pub fn altitude_of(position: Position) -> u32
             longitude: _,
             altitude,
         } => altitude,
+        Position::Minutes {
+            latitude: _,
+            longitude: _,
+        } => 0,
     }
 }

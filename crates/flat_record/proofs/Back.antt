@@ -10,14 +10,14 @@ use Rattle.record.specs.declared.answer.Reading.the-variants as reading
 use Rattle.record.specs.Record.{isGood, offsetInRange, positionInRange}
 use Rattle.forms.proofs.Bounds.{good}
 use Rattle.forms.specs.Fields.Offset.{encodeMinutes}
-use Rattle.forms.specs.Fields.Position.{encodeLatitude, encodeLongitude}
+use Rattle.forms.specs.Fields.Position.{latitudeOf, longitudeOf}
 use Rattle.flat_record.specs.Back.{Back, magnitudesFit}
 use Rattle.flat_record.specs.Decode.{isFlat, recordAt, recordOf}
 use Rattle.flat_record.specs.Encode.{headOf, numbersOf, tailOf}
 use Rattle.flat_record.proofs.Fields.{channel-back, date-back, flag-back, fraction-back, offset-back, position-back}
 
 module _ (r : Record) (o : leb (encodeMinutes (r .offset)) 2147483647 ≡ true)
-    (a : leb (encodeLatitude (r .position)) 2147483647 ≡ true) (b : leb (encodeLongitude (r .position)) 2147483647 ≡ true) where
+    (a : leb (natAbs (latitudeOf (r .position))) 2147483647 ≡ true) (b : leb (natAbs (longitudeOf (r .position))) 2147483647 ≡ true) where
   flat : isFlat (numbersOf r) ≡ true
   unfolding isFlat headOf tailOf
   flat =
@@ -41,8 +41,8 @@ module _ (r : Record) (o : leb (encodeMinutes (r .offset)) 2147483647 ≡ true)
 given-back : (r : Record) → magnitudesFit r ≡ true → recordOf (numbersOf r) ≡ reading.Read r
 unfolding magnitudesFit
 given-back r h =
-    let a = leb (encodeLatitude (r .position)) 2147483647 in
-    let b = leb (encodeLongitude (r .position)) 2147483647 in
+    let a = leb (natAbs (latitudeOf (r .position))) 2147483647 in
+    let b = leb (natAbs (longitudeOf (r .position))) 2147483647 in
     let p = both (leb (encodeMinutes (r .offset)) 2147483647) (a && b) h in
     let q = both a b (p .1) in
     whole r (p .0) (q .0) (q .1)
@@ -57,13 +57,16 @@ unfolding offsetInRange
 offset-fits offsetIs.Absent h = refl
 offset-fits (offsetIs.Minutes z) h = fits (natAbs z) 840 h (omega arith)
 
-position-fits : (p : Position) → positionInRange p ≡ true → (leb (encodeLatitude p) 2147483647 && leb (encodeLongitude p) 2147483647) ≡ true
+position-fits : (p : Position) → positionInRange p ≡ true → (leb (natAbs (latitudeOf p)) 2147483647 && leb (natAbs (longitudeOf p)) 2147483647) ≡ true
 unfolding positionInRange
 position-fits positionIs.Absent h = refl
 position-fits (positionIs.Degrees lat lon alt) h =
     let p = both (leb (natAbs lat) 900000) (leb (natAbs lon) 1800000 && leb alt 9999) h in
     let q = both (leb (natAbs lon) 1800000) (leb alt 9999) (p .1) in
     both-hold _ _ (fits (natAbs lat) 900000 (p .0) (omega arith)) (fits (natAbs lon) 1800000 (q .0) (omega arith))
+position-fits (positionIs.Minutes lat lon) h =
+    let p = both (leb (natAbs lat) 540000) (leb (natAbs lon) 1080000) h in
+    both-hold _ _ (fits (natAbs lat) 540000 (p .0) (omega arith)) (fits (natAbs lon) 1080000 (p .1) (omega arith))
 
 good-fits : (r : Record) → isGood r ≡ true → magnitudesFit r ≡ true
 unfolding magnitudesFit

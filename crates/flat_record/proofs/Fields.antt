@@ -21,9 +21,9 @@ use Rattle.forms.specs.Fields.Date.{dateChoice, encodeDay, encodeMonth, encodeY
 use Rattle.forms.specs.Fields.Flag.{flagChoice}
 use Rattle.forms.specs.Fields.Fraction.{fractionChoice}
 use Rattle.forms.specs.Fields.Offset.{encodeMinutes, offsetChoice}
-use Rattle.forms.specs.Fields.Position.{encodeAltitude, encodeLatitude, encodeLongitude, positionChoice}
+use Rattle.forms.specs.Fields.Position.{encodeAltitude, latitudeOf, longitudeOf, positionChoice}
 use Rattle.fields.specs.Signs.{isMinus, isSouth, isWest}
-use Rattle.flat_record.specs.Decode.{channelIn, dateIn, fitsIfThere, flagIn, fractionIn, kindOf, offsetIn, positionIn, signFits, signedIn}
+use Rattle.flat_record.specs.Decode.{channelIn, dateIn, fitsIfEither, fitsIfThere, flagIn, fractionIn, kindOf, offsetIn, positionIn, signFits, signedIn}
 use Rattle.flat_record.specs.Encode.{dayAlone, fractionValue}
 
 -- a field's number of a kind, and the field
@@ -38,11 +38,12 @@ date-back dateIs.Absent = record { known = refl; same = refl }
 date-back (dateIs.Full y m d) = record { known = refl; same = refl }
 date-back (dateIs.DayOfYear n) = record { known = refl; same = refl }
 
-pub fraction-back : (f : Fraction) → Fits (fractionChoice f) 2 (fractionIn (kindOf (fractionChoice f)) (fractionValue f)) f
+pub fraction-back : (f : Fraction) → Fits (fractionChoice f) 3 (fractionIn (kindOf (fractionChoice f)) (fractionValue f)) f
 unfolding kindOf
 fraction-back fractionIs.Absent = record { known = refl; same = refl }
 fraction-back (fractionIs.Thousandths n) = record { known = refl; same = refl }
 fraction-back (fractionIs.TenMillionths n) = record { known = refl; same = refl }
+fraction-back (fractionIs.Hundredths n) = record { known = refl; same = refl }
 
 pub channel-back : (c : Channel) → Fits (channelChoice c) 1 (channelIn (kindOf (channelChoice c)) (encodeChannel c)) c
 unfolding kindOf
@@ -76,15 +77,16 @@ offset-back (offsetIs.Minutes z) h = (sign-fits z h, ap offsetIs.Minutes (signed
 
 module _ (p : Position) where
   abbrev Signs : Bool
-  Signs = signFits (oneIf (isSouth p)) (encodeLatitude p) && signFits (oneIf (isWest p)) (encodeLongitude p)
+  Signs = signFits (oneIf (isSouth p)) (natAbs (latitudeOf p)) && signFits (oneIf (isWest p)) (natAbs (longitudeOf p))
 
   abbrev Found : Position
   Found =
-      positionIn (kindOf (positionChoice p)) (signedIn (oneIf (isSouth p)) (encodeLatitude p))
-      (signedIn (oneIf (isWest p)) (encodeLongitude p)) (encodeAltitude p)
+      positionIn (kindOf (positionChoice p)) (signedIn (oneIf (isSouth p)) (natAbs (latitudeOf p)))
+      (signedIn (oneIf (isWest p)) (natAbs (longitudeOf p))) (encodeAltitude p)
 
-pub position-back : (p : Position) → leb (encodeLatitude p) 2147483647 ≡ true → leb (encodeLongitude p) 2147483647 ≡ true
-    → (fitsIfThere (kindOf (positionChoice p)) (Signs p) ≡ true) × (Found p ≡ p)
+pub position-back : (p : Position) → leb (natAbs (latitudeOf p)) 2147483647 ≡ true → leb (natAbs (longitudeOf p)) 2147483647 ≡ true
+    → (fitsIfEither (kindOf (positionChoice p)) (Signs p) ≡ true) × (Found p ≡ p)
 unfolding kindOf
 position-back positionIs.Absent h l = (refl, refl)
 position-back (positionIs.Degrees lat lon alt) h l = (both-hold _ _ (sign-fits lat h) (sign-fits lon l), rw (signed-is lat, signed-is lon))
+position-back (positionIs.Minutes lat lon) h l = (both-hold _ _ (sign-fits lat h) (sign-fits lon l), rw (signed-is lat, signed-is lon))

@@ -29,7 +29,7 @@ use Rattle.flat_record.specs.Encode.{size}
 
 -- what the first number of a field says
 unfoldable pub kindOf : ℕ → Kind
-kindOf n = pick (eqb n 0) kind.Absent (pick (eqb n 1) kind.First (pick (eqb n 2) kind.Second kind.Unknown))
+kindOf n = pick (eqb n 0) kind.Absent (pick (eqb n 1) kind.First (pick (eqb n 2) kind.Second (pick (eqb n 3) kind.Third kind.Unknown)))
 
 -- the number at a place
 abbrev pub at : List ℕ → ℕ → ℕ
@@ -41,6 +41,7 @@ abbrev pub dateIn : Kind → ℕ → ℕ → ℕ → ℕ → Date
 dateIn kind.Absent y m d n = dateIs.Absent
 dateIn kind.First y m d n = dateIs.Full y m d
 dateIn kind.Second y m d n = dateIs.DayOfYear n
+dateIn kind.Third y m d n = dateIs.Absent
 dateIn kind.Unknown y m d n = dateIs.Absent
 
 abbrev pub dateAt : List ℕ → Date
@@ -50,18 +51,21 @@ abbrev pub fractionIn : Kind → ℕ → Fraction
 fractionIn kind.Absent n = fractionIs.Absent
 fractionIn kind.First n = fractionIs.Thousandths n
 fractionIn kind.Second n = fractionIs.TenMillionths n
+fractionIn kind.Third n = fractionIs.Hundredths n
 fractionIn kind.Unknown n = fractionIs.Absent
 
 abbrev pub channelIn : Kind → ℕ → Channel
 channelIn kind.Absent n = channelIs.Absent
 channelIn kind.First n = channelIs.Number n
 channelIn kind.Second n = channelIs.Absent
+channelIn kind.Third n = channelIs.Absent
 channelIn kind.Unknown n = channelIs.Absent
 
 abbrev pub flagIn : Kind → Flag
 flagIn kind.Absent = flagIs.Absent
 flagIn kind.First = flagIs.No
 flagIn kind.Second = flagIs.Yes
+flagIn kind.Third = flagIs.Absent
 flagIn kind.Unknown = flagIs.Absent
 
 -- a sign (1 for negative) and a magnitude
@@ -72,6 +76,7 @@ abbrev pub offsetIn : Kind → ℤ → Offset
 offsetIn kind.Absent z = offsetIs.Absent
 offsetIn kind.First z = offsetIs.Minutes z
 offsetIn kind.Second z = offsetIs.Absent
+offsetIn kind.Third z = offsetIs.Absent
 offsetIn kind.Unknown z = offsetIs.Absent
 
 abbrev pub offsetAt : List ℕ → Offset
@@ -80,7 +85,8 @@ offsetAt ns = offsetIn (kindOf (at ns 18)) (signedIn (at ns 19) (at ns 20))
 abbrev pub positionIn : Kind → ℤ → ℤ → ℕ → Position
 positionIn kind.Absent lat lon alt = positionIs.Absent
 positionIn kind.First lat lon alt = positionIs.Degrees lat lon alt
-positionIn kind.Second lat lon alt = positionIs.Absent
+positionIn kind.Second lat lon alt = positionIs.Minutes lat lon
+positionIn kind.Third lat lon alt = positionIs.Absent
 positionIn kind.Unknown lat lon alt = positionIs.Absent
 
 abbrev pub positionAt : List ℕ → Position
@@ -91,22 +97,34 @@ positionAt ns = positionIn (kindOf (at ns 21)) (signedIn (at ns 22) (at ns 23)) 
 abbrev pub signFits : ℕ → ℕ → Bool
 signFits s m = leb s 1 && leb m 2147483647
 
--- a field of one kind that is absent, or there with numbers that fit
+-- a field of one kind, or of two, that is absent, or there with numbers that fit
+
 abbrev pub fitsIfThere : Kind → Bool → Bool
 fitsIfThere kind.Absent b = true
 fitsIfThere kind.First b = b
 fitsIfThere kind.Second b = false
+fitsIfThere kind.Third b = false
 fitsIfThere kind.Unknown b = false
+
+abbrev pub fitsIfEither : Kind → Bool → Bool
+fitsIfEither kind.Absent b = true
+fitsIfEither kind.First b = b
+fitsIfEither kind.Second b = b
+fitsIfEither kind.Third b = false
+fitsIfEither kind.Unknown b = false
 
 abbrev pub offsetFits : List ℕ → Bool
 offsetFits ns = fitsIfThere (kindOf (at ns 18)) (signFits (at ns 19) (at ns 20))
 
+abbrev pub signsFit : List ℕ → Bool
+signsFit ns = signFits (at ns 22) (at ns 23) && signFits (at ns 24) (at ns 25)
+
 abbrev pub positionFits : List ℕ → Bool
-positionFits ns = fitsIfThere (kindOf (at ns 21)) (signFits (at ns 22) (at ns 23) && signFits (at ns 24) (at ns 25))
+positionFits ns = fitsIfEither (kindOf (at ns 21)) (signsFit ns)
 
 abbrev pub kindsFit : List ℕ → Bool
 kindsFit ns =
-    leb (at ns 3) 2 && leb (at ns 8) 2 && leb (at ns 10) 1
+    leb (at ns 3) 2 && leb (at ns 8) 3 && leb (at ns 10) 1
     && leb (at ns 12) 2 && leb (at ns 13) 2 && leb (at ns 14) 2 && leb (at ns 15) 2 && leb (at ns 16) 2 && leb (at ns 17) 2
     && leb (at ns 27) 2 && leb (at ns 28) 2
 

@@ -3,6 +3,7 @@ use mathlib.Core.List.{List, [], _∷_, _++_}
 use mathlib.Core.Path.{_≡_}
 use Prim.Native.Nat.{ℕ}
 use lib.Dec.{leb}
+use lib.IntN.{natAbs}
 use lib.ListN.{length}
 use Rattle.cond.specs.Pick.{oneIf, pick}
 use Rattle.record.specs.declared.Date.{Date}
@@ -18,7 +19,7 @@ use Rattle.forms.specs.Fields.Date.{dateChoice, encodeDay, encodeMonth, encodeY
 use Rattle.forms.specs.Fields.Flag.{flagChoice}
 use Rattle.forms.specs.Fields.Fraction.{fractionChoice}
 use Rattle.forms.specs.Fields.Offset.{encodeMinutes, offsetChoice}
-use Rattle.forms.specs.Fields.Position.{encodeAltitude, encodeLatitude, encodeLongitude, positionChoice}
+use Rattle.forms.specs.Fields.Position.{encodeAltitude, latitudeOf, longitudeOf, positionChoice}
 use Rattle.forms.specs.Form.{leftOf}
 use Rattle.fields.specs.Signs.{isMinus, isSouth, isWest}
 
@@ -32,11 +33,12 @@ dayAlone dateIs.Absent = 0
 dayAlone (dateIs.Full y m d) = 0
 dayAlone (dateIs.DayOfYear n) = n
 
--- the value of either fraction
+-- the value of a fraction of any kind
 abbrev pub fractionValue : Fraction → ℕ
 fractionValue fractionIs.Absent = 0
 fractionValue (fractionIs.Thousandths n) = n
 fractionValue (fractionIs.TenMillionths n) = n
+fractionValue (fractionIs.Hundredths n) = n
 
 -- the numbers of a record in the order in which they stand in memory; a field's kind is the number of its variant in the block
 
@@ -51,8 +53,8 @@ tailOf r =
     flagChoice (r .sync) ∷ flagChoice (r .fix) ∷ flagChoice (r .utc)
     ∷ flagChoice (r .summer) ∷ flagChoice (r .change) ∷ flagChoice (r .leap)
     ∷ offsetChoice (r .offset) ∷ oneIf (isMinus (r .offset)) ∷ encodeMinutes (r .offset)
-    ∷ positionChoice (r .position) ∷ oneIf (isSouth (r .position)) ∷ encodeLatitude (r .position)
-    ∷ oneIf (isWest (r .position)) ∷ encodeLongitude (r .position) ∷ encodeAltitude (r .position)
+    ∷ positionChoice (r .position) ∷ oneIf (isSouth (r .position)) ∷ natAbs (latitudeOf (r .position))
+    ∷ oneIf (isWest (r .position)) ∷ natAbs (longitudeOf (r .position)) ∷ encodeAltitude (r .position)
     ∷ flagChoice (r .dsp) ∷ flagChoice (r .lsp) ∷ []
 
 abbrev pub numbersOf : Record → List ℕ

@@ -3,7 +3,7 @@ ghost use mathlib.Core.Path.{_≡_};
 ghost use mathlib.Core.Bool.{true};
 ghost use lib.ListN.{length};
 ghost use Rattle.flat_record.specs.Decode.{channelIn, dateAt, flagIn, fractionIn, isFlat, kindOf};
-ghost use Rattle.flat_record.specs.Decode.{offsetAt, offsetFits, positionAt, positionFits, recordAt, recordOf, signFits, signedIn};
+ghost use Rattle.flat_record.specs.Decode.{offsetAt, offsetFits, positionAt, positionFits, recordAt, recordOf, signFits, signedIn, signsFit};
 ghost use Rattle.flat_record.specs.Encode.{size};
 use crate::SIZE;
 use record::Channel;
@@ -22,6 +22,7 @@ pub enum Kind {
     Absent,
     First,
     Second,
+    Third,
     Unknown,
 }
 
@@ -32,6 +33,7 @@ fn kind_of(n: u32) -> Kind
         0 => Kind::Absent,
         1 => Kind::First,
         2 => Kind::Second,
+        3 => Kind::Third,
         _ => Kind::Unknown,
     }
 }
@@ -48,6 +50,7 @@ fn date_at(n: &[u32]) -> Date
             day: n[6],
         },
         Kind::Second => Date::DayOfYear(n[7]),
+        Kind::Third => Date::Absent,
         Kind::Unknown => Date::Absent,
     }
 }
@@ -59,6 +62,7 @@ fn fraction_from(kind: u32, value: u32) -> Fraction
         Kind::Absent => Fraction::Absent,
         Kind::First => Fraction::Thousandths(value),
         Kind::Second => Fraction::TenMillionths(value),
+        Kind::Third => Fraction::Hundredths(value),
         Kind::Unknown => Fraction::Absent,
     }
 }
@@ -70,6 +74,7 @@ fn channel_from(kind: u32, number: u32) -> Channel
         Kind::Absent => Channel::Absent,
         Kind::First => Channel::Number(number),
         Kind::Second => Channel::Absent,
+        Kind::Third => Channel::Absent,
         Kind::Unknown => Channel::Absent,
     }
 }
@@ -118,8 +123,17 @@ fn offset_at(n: &[u32]) -> Offset
         Kind::Absent => Offset::Absent,
         Kind::First => Offset::Minutes(signed_from(n[19], n[20])),
         Kind::Second => Offset::Absent,
+        Kind::Third => Offset::Absent,
         Kind::Unknown => Offset::Absent,
     }
+}
+
+// The signs and magnitudes of a position that is there.
+fn signs_fit(n: &[u32]) -> bool
+    requires { ⌜ length (now n) ≡ size ⌝ }
+    ensures { λ r. ⌜ r ≡ signsFit (now (n .entry)) ⌝ }
+{
+    sign_fits(n[22], n[23]) & sign_fits(n[24], n[25])
 }
 
 fn position_fits(n: &[u32]) -> bool
@@ -128,7 +142,8 @@ fn position_fits(n: &[u32]) -> bool
 {
     match n[21] {
         0 => true,
-        1 => sign_fits(n[22], n[23]) & sign_fits(n[24], n[25]),
+        1 => signs_fit(n),
+        2 => signs_fit(n),
         _ => false,
     }
 }
@@ -144,7 +159,11 @@ fn position_at(n: &[u32]) -> Position
             longitude: signed_from(n[24], n[25]),
             altitude: n[26],
         },
-        Kind::Second => Position::Absent,
+        Kind::Second => Position::Minutes {
+            latitude: signed_from(n[22], n[23]),
+            longitude: signed_from(n[24], n[25]),
+        },
+        Kind::Third => Position::Absent,
         Kind::Unknown => Position::Absent,
     }
 }
@@ -154,7 +173,7 @@ fn is_flat(n: &[u32]) -> bool
     ensures { λ r. ⌜ r ≡ isFlat (now (n .entry)) ⌝ }
 {
     (n[3] <= 2)
-        & (n[8] <= 2)
+        & (n[8] <= 3)
         & (n[10] <= 1)
         & (n[12] <= 2)
         & (n[13] <= 2)

@@ -64,6 +64,7 @@ fn fraction_kind(fraction: Fraction) -> u32
         Fraction::Absent => 0,
         Fraction::Thousandths(_) => 1,
         Fraction::TenMillionths(_) => 2,
+        Fraction::Hundredths(_) => 3,
     }
 }
 
@@ -74,6 +75,7 @@ fn fraction_value(fraction: Fraction) -> u32
         Fraction::Absent => 0,
         Fraction::Thousandths(n) => n,
         Fraction::TenMillionths(n) => n,
+        Fraction::Hundredths(n) => n,
     }
 }
 
@@ -115,6 +117,10 @@ fn position_kind(position: Position) -> u32
             longitude: _,
             altitude: _,
         } => 1,
+        Position::Minutes {
+            latitude: _,
+            longitude: _,
+        } => 2,
     }
 }
 
@@ -180,9 +186,9 @@ fn put_tail(r: Record, out: &mut [u32])
         fields::minutes_of(offset),
         position_kind(position),
         one_if(fields::is_south(position)),
-        fields::latitude_of(position),
+        fields::latitude_units(position),
         one_if(fields::is_west(position)),
-        fields::longitude_of(position),
+        fields::longitude_units(position),
         fields::altitude_of(position),
         flag_kind(dsp),
         flag_kind(lsp),

@@ -6,9 +6,9 @@ use Rattle.forms.specs.Carries.{carriesOf}
 use Rattle.forms.specs.Fields.Flag.{isCarried, noFlag, ownLetter}
 use Rattle.forms.specs.Fields.Offset.{inMinutes, isOffset, noOffset}
 use Rattle.forms.specs.Places.{has}
-use Rattle.forms.specs.Slots.{Slot, halfHour, month, notice, offsetHours, ordinal, quality, south, tenMillionth, thousandth, year, zone}
+use Rattle.forms.specs.Slots.{Slot, altitude, halfHour, hundredth, latitudeMinute, month, notice, offsetHours, ordinal, quality, tenMillionth, thousandth, year, zone}
 use Rattle.forms.proofs.BlockLayout.{absent, found}
-use Rattle.forms.proofs.Choices.{dateIn, fractionIn, isPresent, second-has}
+use Rattle.forms.proofs.Choices.{dateIn, fractionIn, isPresent, positionIn, second-has}
 use Rattle.forms.proofs.FlagChoices.{flag-has}
 use Rattle.forms.proofs.Lines.{choice-lt, everyVariant, everyLine, isChoice, onlyIn}
 
@@ -33,7 +33,7 @@ module _ (cs : List ℕ) (o : isChoice blockLines cs ≡ true) where
     pub change : isCarried (carriesOf (chosenLayout blockLines cs) .change) ≡ isPresent (getD cs 8 0)
     pub leap : isCarried (carriesOf (chosenLayout blockLines cs) .leap) ≡ isPresent (getD cs 9 0)
     pub offset : isOffset (carriesOf (chosenLayout blockLines cs) .offset) ≡ isPresent (getD cs 10 0)
-    pub position : carriesOf (chosenLayout blockLines cs) .position ≡ isPresent (getD cs 11 0)
+    pub position : carriesOf (chosenLayout blockLines cs) .position ≡ positionIn (getD cs 11 0)
     pub dsp : isCarried (carriesOf (chosenLayout blockLines cs) .dsp) ≡ isPresent (getD cs 12 0)
     pub lsp : isCarried (carriesOf (chosenLayout blockLines cs) .lsp) ≡ isPresent (getD cs 13 0)
 
@@ -48,7 +48,7 @@ module _ (cs : List ℕ) (o : isChoice blockLines cs ≡ true) where
   laid =
       record {
         date = rw (found cs o 0 month refl, found cs o 0 year refl, found cs o 0 ordinal refl);
-        fraction = rw (found cs o 2 thousandth refl, found cs o 2 tenMillionth refl);
+        fraction = rw (found cs o 2 thousandth refl, found cs o 2 tenMillionth refl, found cs o 2 hundredth refl);
         channel = found cs o 3 Slot.channel refl ∙ second-has _ _ Slot.channel (getD cs 3 0) refl refl (choice-lt blockLines cs o 3 (lit< tt));
         sync = rw (absent cs o quality refl, flag-in 4 (lit< tt) "sync=" Slot.sync refl refl) (own-carried _);
         fix = rw (flag-in 5 (lit< tt) "fix=" Slot.fix refl refl) (own-carried _);
@@ -57,7 +57,7 @@ module _ (cs : List ℕ) (o : isChoice blockLines cs ≡ true) where
         change = rw (absent cs o notice refl, flag-in 8 (lit< tt) "change=" Slot.change refl refl) (own-carried _);
         leap = rw (absent cs o notice refl, flag-in 9 (lit< tt) "leap=" Slot.leap refl refl) (own-carried _);
         offset = rw (absent cs o halfHour refl, found cs o 10 offsetHours refl, second-has _ _ offsetHours (getD cs 10 0) refl refl (choice-lt blockLines cs o 10 (lit< tt))) (offset-carried _);
-        position = found cs o 11 south refl ∙ second-has _ _ south (getD cs 11 0) refl refl (choice-lt blockLines cs o 11 (lit< tt));
+        position = rw (found cs o 11 altitude refl, found cs o 11 latitudeMinute refl);
         dsp = rw (flag-in 12 (lit< tt) "dsp=" Slot.dsp refl refl) (own-carried _);
         lsp = rw (flag-in 13 (lit< tt) "lsp=" Slot.lsp refl refl) (own-carried _);
       }

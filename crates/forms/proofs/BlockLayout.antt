@@ -5,7 +5,9 @@ use Rattle.spelling.specs.Bytes.{allAre, isWord, sameBytes, letters}
 use Rattle.spelling.proofs.Words.{allDifferent, allLong}
 use Rattle.forms.specs.Block.{blockLines, chosenLayout}
 use Rattle.forms.specs.Places.{Layout, has}
-use Rattle.forms.specs.Slots.{Slot, altitude, among, day, halfHour, hour, latitudeDegrees, latitudePart, longitudeDegrees, longitudePart, minus, minute, month, ofChecksum, offsetHours, offsetMinutes, ordinal, plus, second, south, checksum, tenMillionth, thousandth, west, year}
+use Rattle.forms.specs.Slots.{Slot, altitude, among, checksum, day, halfHour, hour, hundredth, latitudeDegrees, latitudeHundredth, latitudeMinute, latitudePart, latitudeWhole}
+use Rattle.forms.specs.Slots.{longitudeDegrees, longitudeHundredth, longitudeMinute, longitudePart, longitudeWhole, minus, minute, month, ofChecksum, offsetHours}
+use Rattle.forms.specs.Slots.{offsetMinutes, ordinal, plus, second, south, tenMillionth, thousandth, west, year}
 use Rattle.forms.proofs.Allowed.{allWords, allowsLayout, upTo}
 use Rattle.forms.proofs.Append.{allows-append, limit-append, sound-append, wide-append}
 use Rattle.forms.proofs.ChecksumList.{checksumsSound}
@@ -102,9 +104,9 @@ module _ (cs : List ℕ) (o : isChoice blockLines cs ≡ true) where
   block-complete =
       record {
         date = rw (found 0 year refl, found 0 month refl, found 0 day refl, found 0 ordinal refl) (passes 0 dateWhole (lit< tt) refl);
-        fraction = rw (found 2 thousandth refl, found 2 tenMillionth refl) (passes 2 fractionWhole (lit< tt) refl);
+        fraction = rw (found 2 thousandth refl, found 2 tenMillionth refl, found 2 hundredth refl) (passes 2 fractionWhole (lit< tt) refl);
         offset = rw (found 10 minus refl, found 10 plus refl, found 10 offsetHours refl, found 10 offsetMinutes refl, found 10 halfHour refl) (passes 10 offsetWhole (lit< tt) refl);
-        position = rw (found 11 south refl, found 11 latitudeDegrees refl, found 11 latitudePart refl, found 11 west refl, found 11 longitudeDegrees refl, found 11 longitudePart refl, found 11 altitude refl) (passes 11 positionWhole (lit< tt) refl);
+        position = rw (found 11 south refl, found 11 latitudeDegrees refl, found 11 latitudePart refl, found 11 latitudeWhole refl, found 11 latitudeMinute refl, found 11 latitudeHundredth refl, found 11 west refl, found 11 longitudeDegrees refl, found 11 longitudePart refl, found 11 longitudeWhole refl, found 11 longitudeMinute refl, found 11 longitudeHundredth refl, found 11 altitude refl) (passes 11 positionWhole (lit< tt) refl);
         weekday = implied _ _ (agreed 0 implies Slot.weekday Slot.month refl);
         quality = excluded _ _ (agreed 4 excludes Slot.quality Slot.sync refl);
         utc = λ h. absent Slot.zone refl;

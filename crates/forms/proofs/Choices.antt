@@ -17,7 +17,7 @@ use Rattle.forms.specs.Fields.Channel.{channelChoice, hasChannel, carrie
 use Rattle.forms.specs.Fields.Date.{DateKind, dateChoice, hasDate, carriedDate}
 use Rattle.forms.specs.Fields.Fraction.{FractionKind, fractionChoice, hasFraction, carriedFraction}
 use Rattle.forms.specs.Fields.Offset.{hasOffset, carriedOffset, offsetChoice}
-use Rattle.forms.specs.Fields.Position.{hasPosition, carriedPosition, positionChoice}
+use Rattle.forms.specs.Fields.Position.{PositionKind, hasPosition, carriedPosition, positionChoice}
 use Rattle.forms.specs.Places.{Layout, hasWords, has, layoutWidth}
 use Rattle.forms.specs.Slots.{Slot, Values, minus, south, west}
 
@@ -68,19 +68,26 @@ unfolding carriesOf has carriedFraction hasWords layoutWidth
 fraction-own fractionIs.Absent = plain refl refl refl (λ v. refl) (lit≤ tt) (lit≤ tt)
 fraction-own (fractionIs.Thousandths n) = plain refl refl refl (λ v. refl) (lit≤ tt) (lit≤ tt)
 fraction-own (fractionIs.TenMillionths n) = plain refl refl refl (λ v. refl) (lit≤ tt) (lit≤ tt)
+fraction-own (fractionIs.Hundredths n) = plain refl refl refl (λ v. refl) (lit≤ tt) (lit≤ tt)
 
-pub fraction-choice : (c : ℕ) (x : Fraction) → c < 3 → hasFraction (fractionIn c) x ≡ true → carriedFraction (fractionIn c) x ≡ x → fractionChoice x ≡ c
+pub fraction-choice : (c : ℕ) (x : Fraction) → c < 4 → hasFraction (fractionIn c) x ≡ true → carriedFraction (fractionIn c) x ≡ x → fractionChoice x ≡ c
 unfolding carriesOf has carriedFraction
 fraction-choice zero x b h k = sym (ap fractionChoice k)
 fraction-choice (suc zero) fractionIs.Absent b h k = absurd (false≢true h)
 fraction-choice (suc zero) (fractionIs.Thousandths n) b h k = refl
 fraction-choice (suc zero) (fractionIs.TenMillionths n) b h k = absurd (false≢true h)
+fraction-choice (suc zero) (fractionIs.Hundredths n) b h k = absurd (false≢true h)
 fraction-choice (suc (suc zero)) fractionIs.Absent b h k = absurd (false≢true h)
 fraction-choice (suc (suc zero)) (fractionIs.Thousandths n) b h k = absurd (false≢true h)
 fraction-choice (suc (suc zero)) (fractionIs.TenMillionths n) b h k = refl
-fraction-choice (suc (suc (suc c))) x b h k = absurd (omega arith)
+fraction-choice (suc (suc zero)) (fractionIs.Hundredths n) b h k = absurd (false≢true h)
+fraction-choice (suc (suc (suc zero))) fractionIs.Absent b h k = absurd (false≢true h)
+fraction-choice (suc (suc (suc zero))) (fractionIs.Thousandths n) b h k = absurd (false≢true h)
+fraction-choice (suc (suc (suc zero))) (fractionIs.TenMillionths n) b h k = absurd (false≢true h)
+fraction-choice (suc (suc (suc zero))) (fractionIs.Hundredths n) b h k = refl
+fraction-choice (suc (suc (suc (suc c)))) x b h k = absurd (omega arith)
 
--- channel, offset and position: the second variant tells the field
+-- channel and offset: the second variant tells the field
 
 -- a variant other than the first
 abbrev pub isPresent : ℕ → Bool
@@ -117,15 +124,26 @@ offset-choice (suc zero) offsetIs.Absent b h k = absurd (false≢true h)
 offset-choice (suc zero) (offsetIs.Minutes z) b h k = refl
 offset-choice (suc (suc c)) x b h k = absurd (omega arith)
 
-pub position-own : (x : Position) → Own positionLine (positionChoice x) (hasPosition (isPresent (positionChoice x)) x) (carriedPosition (isPresent (positionChoice x)) x) x 11 34
-unfolding carriedPosition hasWords letters layoutWidth
+-- position
+
+abbrev pub positionIn : ℕ → PositionKind
+positionIn c = carriesOf (getD positionLine c []) .position
+
+pub position-own : (x : Position) → Own positionLine (positionChoice x) (hasPosition (positionIn (positionChoice x)) x) (carriedPosition (positionIn (positionChoice x)) x) x 11 34
+unfolding carriesOf has carriedPosition hasWords letters layoutWidth
 position-own positionIs.Absent = plain refl refl refl (λ v. refl) (lit≤ tt) (lit≤ tt)
 position-own (positionIs.Degrees lat lon alt) =
     record { among = refl; taken = refl; whole = refl; hasWord = λ v m s w. simp (lt-ltb (v south) 2 s, lt-ltb (v west) 2 w); low = lit≤ tt; high = lit≤ tt }
+position-own (positionIs.Minutes lat lon) =
+    record { among = refl; taken = refl; whole = refl; hasWord = λ v m s w. simp (lt-ltb (v south) 2 s, lt-ltb (v west) 2 w); low = lit≤ tt; high = lit≤ tt }
 
-pub position-choice : (c : ℕ) (x : Position) → c < 2 → hasPosition (isPresent c) x ≡ true → carriedPosition (isPresent c) x ≡ x → positionChoice x ≡ c
-unfolding carriedPosition
+pub position-choice : (c : ℕ) (x : Position) → c < 3 → hasPosition (positionIn c) x ≡ true → carriedPosition (positionIn c) x ≡ x → positionChoice x ≡ c
+unfolding carriesOf has carriedPosition
 position-choice zero x b h k = sym (ap positionChoice k)
 position-choice (suc zero) positionIs.Absent b h k = absurd (false≢true h)
 position-choice (suc zero) (positionIs.Degrees lat lon alt) b h k = refl
-position-choice (suc (suc c)) x b h k = absurd (omega arith)
+position-choice (suc zero) (positionIs.Minutes lat lon) b h k = absurd (false≢true h)
+position-choice (suc (suc zero)) positionIs.Absent b h k = absurd (false≢true h)
+position-choice (suc (suc zero)) (positionIs.Degrees lat lon alt) b h k = absurd (false≢true h)
+position-choice (suc (suc zero)) (positionIs.Minutes lat lon) b h k = refl
+position-choice (suc (suc (suc c))) x b h k = absurd (omega arith)

@@ -18,4 +18,5 @@ table =
       eight = (refl, refl);
       ten = (refl, refl);
       eleven = (refl, refl);
+      twelve = (refl, refl);
     }

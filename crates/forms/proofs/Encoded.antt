@@ -6,13 +6,13 @@ use Rattle.forms.specs.Fields.Date.{decodeDate, dateKind, dateSlots, wee
 use Rattle.forms.specs.Fields.Flag.{qualityInRange}
 use Rattle.forms.specs.Fields.Fraction.{fractionKind, fractionSlots}
 use Rattle.forms.specs.Fields.Offset.{isOffset, decodeMinutes, offsetKind, offsetSlots, offsetConsistent, signRule, toldSign}
-use Rattle.forms.specs.Fields.Position.{positionSlots, positionConsistent}
+use Rattle.forms.specs.Fields.Position.{arcInRange, positionConsistent, positionKind, positionSlots}
 use Rattle.forms.specs.Fields.Time.{leapConsistent, secondsConsistent}
 use Rattle.forms.specs.CarriedPart.{carriedPart}
 use Rattle.forms.specs.Required.{hasCarried}
 use Rattle.forms.specs.Places.{Layout, has}
 use Rattle.forms.specs.Slots.{Slot, Values, among, change, channel, day, daySeconds, deletion, dsp, fix, isChecksum, leap, leapSecond, lsp}
-use Rattle.forms.specs.Slots.{month, notice, offsetMinutes, quality, south, summer, sync, utc, weekday, year, zone}
+use Rattle.forms.specs.Slots.{month, notice, offsetMinutes, quality, summer, sync, utc, weekday, year, zone}
 use Rattle.forms.specs.Decode.{decode}
 use Rattle.forms.specs.Encode.{encode}
 use Rattle.forms.proofs.Agrees.{agreed, agrees, each-had}
@@ -34,11 +34,12 @@ pub record Read (ps : Layout) (v : Values) : Type 0 where
   pub minutes : v offsetMinutes < 60
   pub quality : qualityInRange (v Slot.quality) ≡ true
   pub deletion : v Slot.deletion ≡ 0
+  pub arcs : arcInRange v ≡ true
   pub weekdays : weekdayConsistent (has ps weekday) v ≡ true
   pub leaps : leapConsistent (has ps leapSecond) v ≡ true
   pub seconds : secondsConsistent (has ps daySeconds) v ≡ true
   pub offsets : offsetConsistent (offsetKind ps) v ≡ true
-  pub positions : positionConsistent v ≡ true
+  pub positions : positionConsistent (positionKind ps) v ≡ true
 
 module _ (ps : Layout) (c : Complete ps) (v : Values) (z : Read ps v) where
   -- the slot tells its value again, where the layout has it
@@ -92,8 +93,8 @@ module _ (ps : Layout) (c : Complete ps) (v : Values) (z : Read ps v) where
       then flags-again
       then each-had ofOffset (offsetSlots (offsetKind ps)) (has ps) (c .offset) _
       (offset-encoded v _ (z .minutes) (offsetKind ps) refl (z .offsets) (small-of ofOffset (offsetSlots (offsetKind ps)) (c .offset)))
-      then each-had ofPosition (positionSlots (has ps south)) (has ps) (c .position) _
-      (position-encoded (has ps south) v _ refl (z .positions) (small-of ofPosition (positionSlots (has ps south)) (c .position)))
+      then each-had ofPosition (positionSlots (positionKind ps)) (has ps) (c .position) _
+      (position-encoded (positionKind ps) v _ refl (z .arcs) (z .positions) (small-of ofPosition (positionSlots (positionKind ps)) (c .position)))
 
   pub encoded-again : (f : Slot) → has ps f ≡ true → isChecksum f ≡ false → encode (decode (carriesOf ps) v) f ≡ v f
   unfolding Again

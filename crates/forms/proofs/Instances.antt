@@ -1,5 +1,5 @@
 -- The forms of one length pass the tests: demand 2 and the law of the start byte follow for each by its number.
-use Rattle.cond.proofs.Kit.{[], _&&_, _++_, _<_, _∷_, _≡_, Bool, eqb, getD, List, lit≤, refl, set, subst, true, ℕ}
+use Rattle.cond.proofs.Kit.{[], _&&_, _++_, _∷_, _≡_, Bool, eqb, List, lit≤, refl, subst, true, ℕ}
 use Rattle.cond.proofs.Tests.{both, either-way}
 use Rattle.spelling.specs.Bytes.{allAre, groupsLimit, groupsWidth, isWord, sameBytes, letters}
 use Rattle.spelling.proofs.Groups.{fullGroups, noDigit}
@@ -10,7 +10,7 @@ use Rattle.forms.specs.Block.{firstEdition}
 use Rattle.forms.specs.Form.{Form, readBy}
 use Rattle.forms.specs.Forms.{FormKind, Numbered, allForms, block, formKindOf, serialForms, sized, unknown}
 use Rattle.forms.specs.Places.{has, layoutWidth}
-use Rattle.forms.specs.Serial.{spa}
+use Rattle.forms.specs.Serial.{rmc, spa}
 use Rattle.forms.specs.Start.{OnlyAtHead, startByte}
 use Rattle.forms.specs.Valid.{endByte, lastByte}
 use Rattle.forms.proofs.Allowed.{allGroups, allWords, allowsLayout, upTo}
@@ -21,7 +21,7 @@ use Rattle.forms.proofs.Complete.{isComplete}
 use Rattle.forms.proofs.End.{end-byte, endsFixed}
 use Rattle.forms.proofs.Keeps.{Keeps, sized-keeps, unknown-keeps}
 use Rattle.forms.proofs.Limits.{bound, most}
-use Rattle.forms.proofs.OneByte.{one-replaced, stands, sumBehind}
+use Rattle.forms.proofs.OneByte.{OneReplaced, one-replaced, stands, sumOver}
 use Rattle.forms.proofs.LayoutLimits.{limitOf}
 use Rattle.forms.proofs.Layouts.{apartLayout, soundLayout}
 use Rattle.forms.proofs.Slots.{every}
@@ -80,7 +80,7 @@ keeps unknown h b = unknown-keeps
 pub form-keeps : Keeps (block firstEdition) → (n : ℕ) → Keeps (formKindOf allForms n)
 form-keeps b n =
     keeps (formKindOf allForms n) (variant-passes (passes isSoundForm) allForms n all-sound)
-    (by-number (λ m. Shown) allForms (tt, (tt, (tt, (tt, (tt, (tt, (tt, (tt, (tt, (tt, (b, tt))))))))))) (λ m. tt) n)
+    (by-number (λ m. Shown) allForms (tt, (tt, (tt, (tt, (tt, (tt, (tt, (tt, (tt, (tt, (tt, (b, tt)))))))))))) (λ m. tt) n)
 
 -- the serial forms
 
@@ -108,13 +108,20 @@ module _ (n : ℕ) (d : Form) (e : formKindOf serialForms n ≡ sized d) where
   pub serial-end : (s : List ℕ) (r : Record) → readBy d s ≡ reading.Read r → lastByte s ≡ endByte (d .layout)
   serial-end = end-byte d serial-sound (started .1)
 
--- the sum of an SPA string runs over all bytes before it
-spa-checksum : sumBehind (spa .layout) 29 ≡ true
-unfolding sumBehind stands every
-spa-checksum = refl
+-- the sum of an SPA string, and that of an RMC string, runs over all that it tells and stands behind that
 
--- "One byte replaced by another in an SPA string is always refused."
-pub spa-replaced : (s : List ℕ) (i b : ℕ) (r q : Record) → readBy spa s ≡ reading.Read r → i < 32 → (b ≡ getD s i 0 → ⊥)
-    → readBy spa (set s i b) ≡ reading.Read q → ⊥
+spa-sum : sumOver (spa .layout) 0 29 ≡ true
+unfolding sumOver stands every
+spa-sum = refl
+
+rmc-sum : sumOver (rmc .layout) 1 59 ≡ true
+unfolding sumOver stands every
+rmc-sum = refl
+
+pub spa-replaced : OneReplaced spa
 unfolding formKindOf
-spa-replaced s i b r q h l e k = e (one-replaced spa (serial-sound 4 spa refl) 29 refl (lit≤ tt) spa-checksum s i b r q h l k)
+spa-replaced = one-replaced spa (serial-sound 4 spa refl) 0 29 refl (lit≤ tt) spa-sum
+
+pub rmc-replaced : OneReplaced rmc
+unfolding formKindOf
+rmc-replaced = one-replaced rmc (serial-sound 12 rmc refl) 1 59 refl (lit≤ tt) rmc-sum

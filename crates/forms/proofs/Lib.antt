@@ -52,4 +52,5 @@ pub mod Opposites
 pub mod FrameBytes
 pub mod Differences
 pub mod FrameSigns
+pub mod NoConversion
 pub mod BcdDigits

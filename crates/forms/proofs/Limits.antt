@@ -28,14 +28,16 @@ limits =
     ∷ loose 8 ∷ exact 2 ∷ loose 1 ∷ loose 86401
     -- year, month, day, ordinal
     ∷ loose 100 ∷ loose 13 ∷ loose 32 ∷ loose 367
-    -- thousandth, tenMillionth; channel
-    ∷ loose 1000 ∷ loose 10000000 ∷ loose 2
+    -- thousandth, tenMillionth, hundredth; channel
+    ∷ loose 1000 ∷ loose 10000000 ∷ loose 100 ∷ loose 2
     -- sync, quality, fix, zone, utc, summer, notice, change, leap, dsp, lsp
     ∷ exact 2 ∷ loose 16 ∷ exact 2 ∷ exact 3 ∷ exact 2 ∷ exact 2 ∷ wordless 4 3 ∷ exact 2 ∷ exact 2 ∷ exact 2 ∷ exact 2
     -- minus, plus, offsetHours, offsetMinutes, halfHour
     ∷ exact 2 ∷ exact 2 ∷ loose 15 ∷ loose 60 ∷ wordless 3 2
-    -- south, latitudeDegrees, latitudePart, west, longitudeDegrees, longitudePart, altitude
-    ∷ exact 2 ∷ loose 91 ∷ exact 10000 ∷ exact 2 ∷ loose 181 ∷ exact 10000 ∷ loose 10000
+    -- south, latitudeDegrees, latitudePart, latitudeWhole, latitudeMinute, latitudeHundredth
+    ∷ exact 2 ∷ loose 91 ∷ exact 10000 ∷ loose 91 ∷ loose 60 ∷ exact 100
+    -- west, longitudeDegrees, longitudePart, longitudeWhole, longitudeMinute, longitudeHundredth, altitude
+    ∷ exact 2 ∷ loose 181 ∷ exact 10000 ∷ loose 181 ∷ loose 60 ∷ exact 100 ∷ loose 10000
     -- sum
     ∷ loose 1 ∷ []
 

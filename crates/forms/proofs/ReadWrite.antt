@@ -7,7 +7,7 @@ use Rattle.record.specs.declared.answer.Reading.the-variants as reading
 use Rattle.forms.specs.Carries.{carriesOf}
 use Rattle.forms.specs.Checksum.{Checksum, checksumOf, totalBy}
 use Rattle.forms.specs.Fields.Offset.{offsetKind, offsetConsistent}
-use Rattle.forms.specs.Fields.Position.{positionConsistent}
+use Rattle.forms.specs.Fields.Position.{positionConsistent, positionKind}
 use Rattle.forms.specs.Form.{Form, bytesBy, carries, isExpressible, numberTests, numbersInRange, rangeTests, ranges, readBy, signsConsistent, consistencyTests, consistent, valuesBy}
 use Rattle.forms.specs.CarriedPart.{carriedPart}
 use Rattle.forms.specs.Required.{hasCarried}
@@ -65,13 +65,14 @@ module _ (d : Form) (o : SoundForm d) (s : List ℕ) (r : Record) (a : Accepted 
   known : Read (d .layout) v
   unfolding v q carriesOf signsConsistent
   known =
-      let signs = both (offsetConsistent (offsetKind (d .layout)) (valuesBy d s)) (positionConsistent (valuesBy d s)) (isConsistent 3) in
+      let signs = both (offsetConsistent (offsetKind (d .layout)) (valuesBy d s)) (positionConsistent (positionKind (d .layout)) (valuesBy d s)) (isConsistent 3) in
       record {
         small = λ f h. omega (arith, values-lt (d .layout) 0 s f (o .layoutSound) (a .shaped) h, o .layoutComplete .meant f);
         dates = good q good-record .date;
-        minutes = ltb-true (valuesBy d s offsetMinutes) 60 (numbered 0);
-        quality = numbered 1;
-        deletion = eqb-true (valuesBy d s Slot.deletion) 0 (numbered 2);
+        minutes = ltb-true (valuesBy d s offsetMinutes) 60 (numbered 1);
+        quality = numbered 2;
+        deletion = eqb-true (valuesBy d s Slot.deletion) 0 (numbered 3);
+        arcs = numbered 0;
         weekdays = isConsistent 0;
         leaps = isConsistent 1;
         seconds = isConsistent 2;

@@ -1,9 +1,11 @@
 -- Slots are told apart by their numbers, and a claim of all slots is one of each in a list.
 use Rattle.cond.proofs.Kit.{[], _&&_, _++_, _∙_, _∷_, _≡_, _⊎_, ap, Bool, eq-eqb, eqb-true, false, false≢true, getD, inl, inr, List, refl, subst, suc, sym, true, zero, ℕ, ⊎-elim}
 use Rattle.cond.proofs.Tests.{both, either, or-left, or-right}
-use Rattle.forms.specs.Slots.{Slot, altitude, among, change, channel, day, daySeconds, deletion, dsp, fix, halfHour, hour, isChecksum, latitudeDegrees, latitudePart, leap}
-use Rattle.forms.specs.Slots.{leapSecond, longitudeDegrees, longitudePart, lsp, minus, minute, month, notice, ofChecksum, offsetHours, offsetMinutes, ordinal, plus, quality, same}
-use Rattle.forms.specs.Slots.{second, slotNumber, south, checksum, summer, sync, tenMillionth, thousandth, utc, weekday, west, year, zone}
+use Rattle.forms.specs.Slots.{altitude, among, change, channel, checksum, day, daySeconds, deletion, dsp, fix, halfHour, hour, hundredth}
+use Rattle.forms.specs.Slots.{isChecksum, latitudeDegrees, latitudeHundredth, latitudeMinute, latitudePart, latitudeWhole, leap, leapSecond}
+use Rattle.forms.specs.Slots.{longitudeDegrees, longitudeHundredth, longitudeMinute, longitudePart, longitudeWhole, lsp, minus, minute}
+use Rattle.forms.specs.Slots.{month, notice, ofChecksum, offsetHours, offsetMinutes, ordinal, plus, quality, same, second, Slot, slotNumber}
+use Rattle.forms.specs.Slots.{south, summer, sync, tenMillionth, thousandth, utc, weekday, west, year, zone}
 
 -- the slots by what they tell, in the order of their numbers
 
@@ -18,7 +20,7 @@ abbrev pub ofDate : List Slot
 ofDate = year ∷ month ∷ day ∷ ordinal ∷ []
 
 abbrev pub ofFraction : List Slot
-ofFraction = thousandth ∷ tenMillionth ∷ []
+ofFraction = thousandth ∷ tenMillionth ∷ hundredth ∷ []
 
 abbrev pub ofChannel : List Slot
 ofChannel = channel ∷ []
@@ -30,7 +32,9 @@ abbrev pub ofOffset : List Slot
 ofOffset = minus ∷ plus ∷ offsetHours ∷ offsetMinutes ∷ halfHour ∷ []
 
 abbrev pub ofPosition : List Slot
-ofPosition = south ∷ latitudeDegrees ∷ latitudePart ∷ west ∷ longitudeDegrees ∷ longitudePart ∷ altitude ∷ []
+ofPosition =
+    south ∷ latitudeDegrees ∷ latitudePart ∷ latitudeWhole ∷ latitudeMinute ∷ latitudeHundredth
+    ∷ west ∷ longitudeDegrees ∷ longitudePart ∷ longitudeWhole ∷ longitudeMinute ∷ longitudeHundredth ∷ altitude ∷ []
 
 -- all that tell something of the record
 abbrev pub fieldSlots : List Slot
@@ -53,6 +57,7 @@ slot-at day = refl
 slot-at ordinal = refl
 slot-at thousandth = refl
 slot-at tenMillionth = refl
+slot-at hundredth = refl
 slot-at channel = refl
 slot-at sync = refl
 slot-at quality = refl
@@ -73,9 +78,15 @@ slot-at halfHour = refl
 slot-at south = refl
 slot-at latitudeDegrees = refl
 slot-at latitudePart = refl
+slot-at latitudeWhole = refl
+slot-at latitudeMinute = refl
+slot-at latitudeHundredth = refl
 slot-at west = refl
 slot-at longitudeDegrees = refl
 slot-at longitudePart = refl
+slot-at longitudeWhole = refl
+slot-at longitudeMinute = refl
+slot-at longitudeHundredth = refl
 slot-at altitude = refl
 slot-at checksum = refl
 

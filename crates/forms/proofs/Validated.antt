@@ -1,6 +1,7 @@
 -- The values of a good record are decoded to what its form carries of it, and the reader's ranges and consistency hold of them.
 use Rattle.cond.proofs.Kit.{_<_, _∙_, _≡_, ap, eqb, false, List, lt-ltb, not, not-true, refl, sym, true, ℕ}
 use Rattle.cond.specs.Pick.{oneIf, pick}
+use Rattle.cond.proofs.Tests.{both-hold}
 use Rattle.record.specs.Record.{inRange, isYes, zoneAgrees}
 use Rattle.record.specs.declared.Record.{Record}
 use Rattle.record.specs.declared.answer.Reading.the-variants as reading
@@ -8,14 +9,14 @@ use Rattle.forms.specs.Carries.{carriesOf}
 use Rattle.forms.specs.Fields.Date.{dateKind, dateSlots, encodeDay, encodeMonth, weekdayInRange, weekdayConsistent, encodeYear}
 use Rattle.forms.specs.Fields.Fraction.{fractionKind, fractionSlots}
 use Rattle.forms.specs.Fields.Offset.{offsetKind, offsetSlots}
-use Rattle.forms.specs.Fields.Position.{positionSlots}
+use Rattle.forms.specs.Fields.Position.{arcInRange, positionKind, positionSlots}
 use Rattle.forms.specs.Fields.Time.{leapConsistent, secondsConsistent}
 use Rattle.forms.specs.Form.{validated, numbersInRange, ranges, signsConsistent, consistent}
 use Rattle.forms.specs.CarriedPart.{carriedPart}
 use Rattle.forms.specs.Required.{hasCarried}
 use Rattle.forms.specs.Places.{Layout, has}
-use Rattle.forms.specs.Slots.{Slot, Values, among, change, channel, day, daySeconds, deletion, dsp, fix, halfHour, hour, isChecksum, leap, leapSecond, lsp, minus, minute, month}
-use Rattle.forms.specs.Slots.{notice, offsetMinutes, quality, second, south, summer, sync, utc, weekday, year, zone}
+use Rattle.forms.specs.Slots.{Slot, Values, among, change, channel, day, daySeconds, deletion, dsp, fix, halfHour, hour, isChecksum, latitudeMinute, leap, leapSecond, longitudeMinute, lsp, minus, minute, month}
+use Rattle.forms.specs.Slots.{notice, offsetMinutes, quality, second, summer, sync, utc, weekday, year, zone}
 use Rattle.forms.specs.Decode.{decode}
 use Rattle.forms.specs.Encode.{encode}
 use Rattle.forms.proofs.Agrees.{agreed, agrees}
@@ -26,7 +27,7 @@ use Rattle.forms.proofs.Fields.Date.{date-decoded, full-slots, weekday-
 use Rattle.forms.proofs.Fields.Flag.{first-decoded, own-decoded, quality-holds, second-decoded, sync-decoded}
 use Rattle.forms.proofs.Fields.Fraction.{fraction-decoded}
 use Rattle.forms.proofs.Fields.Offset.{Offsets, minutes-lt, offset-decoded, offset-consistent}
-use Rattle.forms.proofs.Fields.Position.{position-decoded, position-consistent}
+use Rattle.forms.proofs.Fields.Position.{arc-lt, position-decoded, position-consistent}
 use Rattle.forms.proofs.Fields.Time.{deletion-holds, follows-holds}
 use Rattle.forms.proofs.Required.{all-of}
 use Rattle.forms.proofs.Slots.{every, every-in, ofDate, ofFraction, ofOffset, ofPosition, ofTime}
@@ -82,10 +83,15 @@ module _ (ps : Layout) (c : Complete ps) (r : Record) (g : Good r) (v : Values) 
         leap = second-decoded (has ps notice) (r .change) (r .leap) (v notice) (t .notice) (here notice refl)
             (has ps leap) (v leap) (a .leap) (here leap refl) x;
         offset = offset-decoded r v (offsetKind ps) (a .offset) offsets x;
-        position = position-decoded r v (has ps south) (a .position) (field-here ofPosition (positionSlots (has ps south)) refl (c .position)) x;
+        position = position-decoded r v (positionKind ps) (a .position) (field-here ofPosition (positionSlots (positionKind ps)) refl (c .position)) x;
         dsp = own-decoded (has ps dsp) (r .dsp) (v dsp) 0 (a .dsp) (here dsp refl) x;
         lsp = own-decoded (has ps lsp) (r .lsp) (v lsp) 0 (a .lsp) (here lsp refl) x;
       }
+
+  arcs : arcInRange v ≡ true
+  arcs =
+      both-hold _ _ (lt-ltb (v latitudeMinute) 60 (arc-lt (has ps latitudeMinute) _ _ (t .values latitudeMinute refl)))
+      (lt-ltb (v longitudeMinute) 60 (arc-lt (has ps longitudeMinute) _ _ (t .values longitudeMinute refl)))
 
   numbers : numbersInRange v ≡ true
   unfolding numbersInRange
@@ -94,15 +100,16 @@ module _ (ps : Layout) (c : Complete ps) (r : Record) (g : Good r) (v : Values) 
         lt-ltb (v offsetMinutes) 60 (minutes-lt (has ps offsetMinutes) (v offsetMinutes) _ (t .values offsetMinutes refl)),
         quality-holds (has ps quality) (isYes (r .sync)) (v quality) (t .values quality refl),
         deletion-holds (has ps deletion) (v deletion) (t .values deletion refl),
+        arcs,
       )
 
-  signs : signsConsistent (offsetKind ps) v ≡ true
-  unfolding signsConsistent every
-  signs =
+  signs : hasCarried (carriesOf ps) r ≡ true → signsConsistent (offsetKind ps) (positionKind ps) v ≡ true
+  unfolding signsConsistent carriesOf every
+  signs h =
       simp (
         offset-consistent r v (offsetKind ps) offsets (field-nowhere ofOffset (offsetSlots (offsetKind ps)) refl (c .offset) minus refl),
-        position-consistent r v (has ps south) (field-here ofPosition (positionSlots (has ps south)) refl (c .position))
-            (field-nowhere ofPosition (positionSlots (has ps south)) refl (c .position)),
+        position-consistent r v (positionKind ps) (all-of (carriesOf ps) r h .position) (field-here ofPosition (positionSlots (positionKind ps)) refl (c .position))
+            (field-nowhere ofPosition (positionSlots (positionKind ps)) refl (c .position)),
       )
 
   weekdays : weekdayConsistent (has ps weekday) v ≡ true
@@ -136,5 +143,5 @@ module _ (ps : Layout) (c : Complete ps) (r : Record) (g : Good r) (v : Values) 
       let isConsistent : weekdayConsistent (carriesOf ps .weekday) v ≡ true = unfold carriesOf in weekdays in
       let leap : leapConsistent (carriesOf ps .leapSecond) v ≡ true = unfold carriesOf in leaps in
       let second : secondsConsistent (carriesOf ps .daySeconds) v ≡ true = unfold carriesOf in seconds in
-      let signed : signsConsistent (carriesOf ps .offset) v ≡ true = unfold carriesOf in signs in
+      let signed : signsConsistent (carriesOf ps .offset) (carriesOf ps .position) v ≡ true = unfold carriesOf in signs h in
       simp (inside, week, numbers, isConsistent, leap, second, signed, zoned) (ap reading.Read q)

@@ -17,7 +17,7 @@ use Rattle.forms.specs.Forms.{FormKind, allForms, block, formKindOf, has
 use Rattle.forms.specs.Frame.{frame}
 use Rattle.forms.specs.Places.{has, hasWords}
 use Rattle.forms.specs.Required.{hasCarried}
-use Rattle.forms.specs.Serial.{capture, computime, erlangen, racal, sat, spa, standard, sysplex}
+use Rattle.forms.specs.Serial.{capture, computime, erlangen, racal, rmc, sat, spa, standard, sysplex}
 use Rattle.forms.specs.WriterNumbers.{Passed, WriterNumbers, hasNoWord, numberAfter, outputSize}
 use Rattle.forms.proofs.Block.{block-answer}
 use Rattle.forms.proofs.ByNumber.{_also_, by-number}
@@ -67,7 +67,7 @@ form-numbered =
     (sized-numbered 1 standard (λ r g. simp (two, three, zoned r g, or-false) (and-true _)) also sized-numbered 2 capture (λ r g. refl)
     also sized-numbered 3 erlangen (λ r g. simp two) also sized-numbered 4 spa (λ r g. refl) also sized-numbered 5 racal (λ r g. refl)
     also sized-numbered 6 sysplex (λ r g. simp two) also sized-numbered 7 computime (λ r g. refl)
-    also sized-numbered 10 sat (λ r g. simp (two, three, zoned r g))
+    also sized-numbered 10 sat (λ r g. simp (two, three, zoned r g)) also sized-numbered 12 rmc (λ r g. simp two)
     also sized-numbered 8 (frame OneAbove) (λ r g. frame-worded OneAbove r) also sized-numbered 11 (frame OneBelow) (λ r g. frame-worded OneBelow r)
     also block-numbered also tt)
     (λ n r room k. absurd (false≢true k))

@@ -15,6 +15,7 @@ use Rattle.record.specs.declared.Position.the-variants as positionIs
 use Rattle.record.specs.declared.Record.{Record}
 use Rattle.forms.specs.Case.{Case, Holds, onesAt, reads, writes}
 use Rattle.forms.specs.Known.{known}
+use Rattle.forms.specs.RmcCases.{kindCases, rmcCases}
 use Rattle.forms.specs.Records.{fields, framedOf, splitOf, standardOf, syncedOf}
 
 -- "J date 23-12-31, 23:59:59, sync yes"
@@ -141,3 +142,5 @@ pub record Bench : Type 0 where
   pub sat-hold : Holds satCases
   pub calendar-hold : Holds calendarCases
   pub sign-hold : Holds signCases
+  pub rmc-hold : Holds rmcCases
+  pub kind-hold : Holds kindCases

@@ -20,7 +20,9 @@ use Rattle.forms.specs.Fields.Offset.{offsetChoice}
 use Rattle.forms.specs.Fields.Position.{positionChoice}
 use Rattle.forms.specs.Form.{Form, readLayout}
 use Rattle.forms.specs.Places.{Layout, letter, lit, one, part, layoutWidth, shape, two}
-use Rattle.forms.specs.Slots.{Slot, altitude, change, channel, day, dsp, fix, hour, latitudeDegrees, latitudePart, leap, longitudeDegrees, longitudePart, lsp, minus, minute, month, offsetHours, offsetMinutes, ordinal, second, south, summer, sync, tenMillionth, thousandth, utc, west, year}
+use Rattle.forms.specs.Slots.{Slot, altitude, change, channel, day, dsp, fix, hour, hundredth, latitudeDegrees, latitudeHundredth, latitudeMinute, latitudePart}
+use Rattle.forms.specs.Slots.{latitudeWhole, leap, longitudeDegrees, longitudeHundredth, longitudeMinute, longitudePart, longitudeWhole, lsp, minus, minute, month}
+use Rattle.forms.specs.Slots.{offsetHours, offsetMinutes, ordinal, second, south, summer, sync, tenMillionth, thousandth, utc, west, year}
 
 -- the variants of a line's value, each a layout
 abbrev pub Line : Type 0
@@ -48,9 +50,10 @@ dateLine =
 abbrev pub timeLine : Line
 timeLine = line "time=" ((two hour ∷ lit ":" ∷ two minute ∷ lit ":" ∷ two second ∷ []) ∷ [])
 
--- "`fraction` (3 or 7 digits)"
+-- "`fraction` (3 or 7 digits)"; W-204 "with two digits"
 abbrev pub fractionLine : Line
-fractionLine = line "fraction=" (absent ∷ (part (digits 3) thousandth ∷ []) ∷ (part (digits 7) tenMillionth ∷ []) ∷ [])
+fractionLine =
+    line "fraction=" (absent ∷ (part (digits 3) thousandth ∷ []) ∷ (part (digits 7) tenMillionth ∷ []) ∷ (two hundredth ∷ []) ∷ [])
 
 -- "`channel`"
 abbrev pub channelLine : Line
@@ -60,7 +63,7 @@ channelLine = line "channel=" (absent ∷ (one channel ∷ []) ∷ [])
 abbrev pub offsetLine : Line
 offsetLine = line "offset=" (absent ∷ (letter minus "+-" ∷ two offsetHours ∷ lit ":" ∷ two offsetMinutes ∷ []) ∷ [])
 
--- "`position` (`+047.3500 +008.0625 0431`)"
+-- "`position` (`+047.3500 +008.0625 0431`)"; W-204 "as `+4721.00 +00803.75`"
 abbrev pub positionLine : Line
 positionLine =
     line "position="
@@ -68,6 +71,8 @@ positionLine =
     ∷ (letter south "+-" ∷ part (digits 3) latitudeDegrees ∷ lit "." ∷ part (digits 4) latitudePart ∷ lit " "
     ∷ letter west "+-" ∷ part (digits 3) longitudeDegrees ∷ lit "." ∷ part (digits 4) longitudePart ∷ lit " "
     ∷ part (digits 4) altitude ∷ [])
+    ∷ (letter south "+-" ∷ two latitudeWhole ∷ two latitudeMinute ∷ lit "." ∷ two latitudeHundredth ∷ lit " "
+    ∷ letter west "+-" ∷ part (digits 3) longitudeWhole ∷ two longitudeMinute ∷ lit "." ∷ two longitudeHundredth ∷ [])
     ∷ [])
 
 -- "these keys in this order"

@@ -4,8 +4,9 @@ use Rattle.forms.specs.Fields.Date.{DateKind, dateKind}
 use Rattle.forms.specs.Fields.Flag.{FlagKind, firstKind, ownKind, secondKind, syncKind}
 use Rattle.forms.specs.Fields.Fraction.{FractionKind, fractionKind}
 use Rattle.forms.specs.Fields.Offset.{OffsetKind, offsetKind}
+use Rattle.forms.specs.Fields.Position.{PositionKind, positionKind}
 use Rattle.forms.specs.Places.{Layout, has}
-use Rattle.forms.specs.Slots.{change, channel, daySeconds, dsp, fix, leap, leapSecond, lsp, notice, quality, south, summer, sync, utc, weekday, zone}
+use Rattle.forms.specs.Slots.{change, channel, daySeconds, dsp, fix, leap, leapSecond, lsp, notice, quality, summer, sync, utc, weekday, zone}
 
 -- the column "carries beside time", and whether the layout tells the weekday, the leap second and the seconds of the day
 pub record Carries : Type 0 where
@@ -19,7 +20,7 @@ pub record Carries : Type 0 where
   pub change : FlagKind
   pub leap : FlagKind
   pub offset : OffsetKind
-  pub position : Bool
+  pub position : PositionKind
   pub dsp : FlagKind
   pub lsp : FlagKind
   pub weekday : Bool
@@ -40,7 +41,7 @@ carriesOf ps =
       change = firstKind (has ps notice) (has ps change);
       leap = secondKind (has ps notice) (has ps leap);
       offset = offsetKind ps;
-      position = has ps south;
+      position = positionKind ps;
       dsp = ownKind (has ps dsp);
       lsp = ownKind (has ps lsp);
       weekday = has ps weekday;

@@ -1,4 +1,5 @@
--- Checksums: "cc is the exclusive-or of all 29 bytes before it", "the ones at 1..75 are even in number".
+-- Checksums: "cc is the exclusive-or of all 29 bytes before it", "the ones at 1..75 are even in number", W-204 "the NMEA exclusive-or of the
+-- bytes between `$` and `*`".
 use mathlib.Core.Bool.{Bool}
 use mathlib.Core.List.{List, [], _∷_}
 use Prim.Native.Nat.{ℕ, _%_}
@@ -38,7 +39,7 @@ abbrev pub checksumTests : List Checksum → List ℕ → Values → List Bool
 checksumTests [] s v = []
 checksumTests (c ∷ cs) s v = eqb (v (c .slot)) (checksumOf c s) ∷ checksumTests cs s v
 
--- "SPA sum or frame parity is wrong" where this is false; v is what the string tells
+-- "SPA sum or frame parity is wrong" where this is false, W-204 "6 for the sum"; v is what the string tells
 unfoldable pub checksumsHold : List Checksum → List ℕ → Values → Bool
 checksumsHold cs s v = all (checksumTests cs s v)
 

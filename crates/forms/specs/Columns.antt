@@ -10,9 +10,10 @@ use Rattle.forms.specs.Fields.Date.{dateWord}
 use Rattle.forms.specs.Fields.Flag.{isCarried}
 use Rattle.forms.specs.Fields.Fraction.{fractionWord}
 use Rattle.forms.specs.Fields.Offset.{isOffset}
+use Rattle.forms.specs.Fields.Position.{positionWord}
 use Rattle.forms.specs.Form.{Form, carries}
 use Rattle.forms.specs.Frame.{frame}
-use Rattle.forms.specs.Serial.{capture, computime, erlangen, racal, sat, spa, standard, sysplex}
+use Rattle.forms.specs.Serial.{capture, computime, erlangen, racal, rmc, sat, spa, standard, sysplex}
 
 -- a word where the field is carried
 abbrev pub wordIf : Bool → String → List String
@@ -29,7 +30,7 @@ column k =
     ++ wordIf (isCarried (k .change)) "change"
     ++ wordIf (isCarried (k .leap)) "leap"
     ++ wordIf (isOffset (k .offset)) "offset"
-    ++ wordIf (k .position) "position"
+    ++ positionWord (k .position)
     ++ wordIf (isCarried (k .dsp)) "dsp"
     ++ wordIf (isCarried (k .lsp)) "lsp"
 
@@ -49,3 +50,4 @@ pub record Table : Type 0 where
   pub eight : Line (frame OneAbove) 100 ("full date" ∷ "sync" ∷ "summer" ∷ "offset" ∷ "dsp" ∷ "lsp" ∷ [])
   pub ten : Line sat 29 ("full date" ∷ "sync" ∷ "utc" ∷ "summer" ∷ "change" ∷ [])
   pub eleven : Line (frame OneBelow) 100 ("full date" ∷ "sync" ∷ "summer" ∷ "offset" ∷ "dsp" ∷ "lsp" ∷ [])
+  pub twelve : Line rmc 65 ("full date" ∷ "hundredths" ∷ "sync" ∷ "position in minutes" ∷ [])

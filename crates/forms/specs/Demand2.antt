@@ -1,9 +1,10 @@
 -- Demand 2: "Reading and writing follow the Meinberg manuals ..", in the paper's numbers and values. What each form carries is the table
 -- of `Columns`.
-use mathlib.Core.Bool.{true}
+use mathlib.Core.Bool.{Bool, true, _||_}
 use mathlib.Core.List.{List, _++_}
 use mathlib.Core.Path.{_≡_}
 use Prim.Native.Nat.{ℕ, _≤_, _<_}
+use lib.Dec.{eqb}
 use lib.ListN.{drop, getD, length, set, take}
 use Rattle.calendar.specs.Calendar.{dayOfYear}
 use Rattle.record.specs.Answers.{readNumber, readRecord, writeNumber, writtenLength}
@@ -22,6 +23,10 @@ numberInto form r out = writeNumber (writeForm form r (length out))
 
 abbrev pub lengthInto : ℕ → Record → List ℕ → ℕ
 lengthInto form r out = writtenLength (writeForm form r (length out))
+
+-- SPA and RMC strings, which have an exclusive-or of their bytes
+abbrev pub isSummed : ℕ → Bool
+isSummed form = eqb form 4 || eqb form 12
 
 -- for every form's number
 pub record Demand2 : Type 0 where
@@ -50,7 +55,9 @@ pub record Demand2 : Type 0 where
       → (numberInto form r out ≡ 0)
       × (lengthInto form r out ≡ length input)
       × (leftForm form r out ≡ input ++ drop (length input) out)
-  -- "One byte replaced by another in an SPA string is always refused."
+  -- "One byte replaced by another in an SPA string is always refused."; and in an RMC string
   pub replaced :
-      (input : List ℕ) (place byte : ℕ) → readNumber (readForm 4 input) ≡ 0 → place < length input → (byte ≡ getD input place 0 → ⊥)
-      → readNumber (readForm 4 (set input place byte)) ≡ 0 → ⊥
+      (form : ℕ) (input : List ℕ) (place byte : ℕ) → isSummed form ≡ true → readNumber (readForm form input) ≡ 0 → place < length input
+      → (byte ≡ getD input place 0 → ⊥)
+      → readNumber (readForm form (set input place byte)) ≡ 0
+      → ⊥

@@ -7,13 +7,15 @@ use Rattle.record.specs.Record.{isYes}
 use Rattle.record.specs.declared.Record.{Record}
 use Rattle.forms.specs.Fields.Channel.{encodeChannel}
 use Rattle.forms.specs.Fields.Date.{encodeDay, encodeMonth, encodeOrdinal, encodeYear}
-use Rattle.forms.specs.Fields.Fraction.{encodeTenMillionths, encodeThousandths}
+use Rattle.forms.specs.Fields.Fraction.{encodeHundredths, encodeTenMillionths, encodeThousandths}
 use Rattle.forms.specs.Fields.Offset.{halfHourOf, encodeMinus, encodeMinutes, opposite}
-use Rattle.forms.specs.Fields.Position.{encodeAltitude, encodeLatitude, encodeLongitude, encodeSouth, encodeWest}
+use Rattle.forms.specs.Fields.Position.{degrees, encodeAltitude, encodeLatitude, encodeLongitude, encodeSouth, encodeWest, minutes}
 use Rattle.forms.specs.Fields.Time.{secondsOfDay}
-use Rattle.forms.specs.Slots.{Values, altitude, change, channel, day, daySeconds, deletion, dsp, fix, halfHour, hour, latitudeDegrees, latitudePart}
-use Rattle.forms.specs.Slots.{leap, leapSecond, longitudeDegrees, longitudePart, lsp, minus, minute, month, notice, offsetHours, offsetMinutes, plus}
-use Rattle.forms.specs.Slots.{ordinal, quality, second, south, checksum, summer, sync, tenMillionth, thousandth, utc, weekday, west, year, zone}
+use Rattle.forms.specs.Slots.{Values, altitude, change, channel, checksum, day, daySeconds, deletion, dsp, fix, halfHour, hour, hundredth}
+use Rattle.forms.specs.Slots.{latitudeDegrees, latitudeHundredth, latitudeMinute, latitudePart, latitudeWhole, leap, leapSecond}
+use Rattle.forms.specs.Slots.{longitudeDegrees, longitudeHundredth, longitudeMinute, longitudePart, longitudeWhole, lsp, minus, minute}
+use Rattle.forms.specs.Slots.{month, notice, offsetHours, offsetMinutes, ordinal, plus, quality, second, south, summer, sync, tenMillionth}
+use Rattle.forms.specs.Slots.{thousandth, utc, weekday, west, year, zone}
 
 -- the values of a record; "weekday and the leap letter are not fields: they follow from the date and from second 60"
 abbrev pub encode : Record → Values
@@ -28,6 +30,7 @@ encode r weekday = weekdayOf (encodeYear (r .date)) (encodeMonth (r .date)) (enc
 encode r leapSecond = oneIf (eqb (r .second) 60)
 encode r thousandth = encodeThousandths (r .fraction)
 encode r tenMillionth = encodeTenMillionths (r .fraction)
+encode r hundredth = encodeHundredths (r .fraction)
 encode r channel = encodeChannel (r .channel)
 encode r sync = oneIf (isYes (r .sync))
 -- "TFOM is 0 for sync yes, 15 for no"
@@ -46,11 +49,17 @@ encode r offsetHours = encodeMinutes (r .offset) / 60
 encode r offsetMinutes = encodeMinutes (r .offset) % 60
 encode r halfHour = halfHourOf (encodeMinutes (r .offset) % 60)
 encode r south = encodeSouth (r .position)
-encode r latitudeDegrees = encodeLatitude (r .position) / 10000
-encode r latitudePart = encodeLatitude (r .position) % 10000
+encode r latitudeDegrees = encodeLatitude degrees (r .position) / 10000
+encode r latitudePart = encodeLatitude degrees (r .position) % 10000
+encode r latitudeWhole = encodeLatitude minutes (r .position) / 6000
+encode r latitudeMinute = encodeLatitude minutes (r .position) % 6000 / 100
+encode r latitudeHundredth = encodeLatitude minutes (r .position) % 100
 encode r west = encodeWest (r .position)
-encode r longitudeDegrees = encodeLongitude (r .position) / 10000
-encode r longitudePart = encodeLongitude (r .position) % 10000
+encode r longitudeDegrees = encodeLongitude degrees (r .position) / 10000
+encode r longitudePart = encodeLongitude degrees (r .position) % 10000
+encode r longitudeWhole = encodeLongitude minutes (r .position) / 6000
+encode r longitudeMinute = encodeLongitude minutes (r .position) % 6000 / 100
+encode r longitudeHundredth = encodeLongitude minutes (r .position) % 100
 encode r altitude = encodeAltitude (r .position)
 encode r dsp = oneIf (isYes (r .dsp))
 encode r lsp = oneIf (isYes (r .lsp))

@@ -19,7 +19,7 @@ use Rattle.forms.specs.Checksum.{Checksum, checksumsHold, withChecksums}
 use Rattle.forms.specs.Fields.Date.{weekdayInRange, weekdayConsistent}
 use Rattle.forms.specs.Fields.Flag.{qualityInRange}
 use Rattle.forms.specs.Fields.Offset.{OffsetKind, minutesInRange, offsetConsistent}
-use Rattle.forms.specs.Fields.Position.{positionConsistent}
+use Rattle.forms.specs.Fields.Position.{PositionKind, arcInRange, positionConsistent}
 use Rattle.forms.specs.Fields.Time.{deletionInRange, leapConsistent, secondsConsistent}
 use Rattle.forms.specs.Required.{hasCarried}
 use Rattle.forms.specs.Places.{Layout, hasWords, bytesOf, has, shape, values}
@@ -45,7 +45,7 @@ valuesBy d s = values (d .layout) 0 s
 
 -- the tests that are a field's own; a slot without a place tells 0
 abbrev pub numberTests : Values → List Bool
-numberTests v = minutesInRange (v offsetMinutes) ∷ qualityInRange (v quality) ∷ deletionInRange (v deletion) ∷ []
+numberTests v = arcInRange v ∷ minutesInRange (v offsetMinutes) ∷ qualityInRange (v quality) ∷ deletionInRange (v deletion) ∷ []
 
 unfoldable pub numbersInRange : Values → Bool
 numbersInRange v = all (numberTests v)
@@ -60,15 +60,15 @@ ranges k v = all (rangeTests k v)
 -- refusal 5
 
 -- "minus, S or W on a zero"
-unfoldable pub signsConsistent : OffsetKind → Values → Bool
-signsConsistent k v = offsetConsistent k v && positionConsistent v
+unfoldable pub signsConsistent : OffsetKind → PositionKind → Values → Bool
+signsConsistent o p v = offsetConsistent o v && positionConsistent p v
 
 abbrev pub consistencyTests : Carries → Values → List Bool
 consistencyTests k v =
     weekdayConsistent (k .weekday) v
     ∷ leapConsistent (k .leapSecond) v
     ∷ secondsConsistent (k .daySeconds) v
-    ∷ signsConsistent (k .offset) v
+    ∷ signsConsistent (k .offset) (k .position) v
     ∷ zoneAgrees (decode k v)
     ∷ []
 

@@ -19,7 +19,7 @@ use Rattle.forms.specs.CarriedPart.{carriedPart}
 use Rattle.forms.specs.Form.{Form, carries, leftBy, readBy, writeBy}
 use Rattle.forms.specs.Frame.{frame}
 use Rattle.forms.specs.Required.{hasCarried}
-use Rattle.forms.specs.Serial.{capture, computime, erlangen, racal, sat, spa, standard, sysplex}
+use Rattle.forms.specs.Serial.{capture, computime, erlangen, racal, rmc, sat, spa, standard, sysplex}
 
 -- a form of one length, an edition of the block, or no form at all
 pub data FormKind : Type 0 where
@@ -39,7 +39,7 @@ numbered n l = record { number = n; kind = l }
 abbrev pub serialForms : List Numbered
 serialForms =
     numbered 1 (sized standard) ∷ numbered 2 (sized capture) ∷ numbered 3 (sized erlangen) ∷ numbered 4 (sized spa) ∷ numbered 5 (sized racal)
-    ∷ numbered 6 (sized sysplex) ∷ numbered 7 (sized computime) ∷ numbered 10 (sized sat) ∷ []
+    ∷ numbered 6 (sized sysplex) ∷ numbered 7 (sized computime) ∷ numbered 10 (sized sat) ∷ numbered 12 (sized rmc) ∷ []
 
 -- all forms, which readers and writers take; W-203: form 8 has "sign 1 for an offset above zero", form 11 is the "same frame with the sign as
 -- 01 had it"
@@ -62,7 +62,8 @@ isKnown (sized d) = true
 isKnown (block e) = true
 isKnown unknown = false
 
--- refusals 1 and 11: "search, new listener: not 1..7", "listener state: form not 1..7" where this is false; "1 and 11 no longer bar form 10"
+-- refusals 1 and 11: "search, new listener: not 1..7", "listener state: form not 1..7" where this is false; "1 and 11 no longer bar form 10",
+-- and W-204 "1 and 11 no longer bar 12"
 unfoldable pub isSerial : ℕ → Bool
 isSerial n = isKnown (formKindOf serialForms n)
 

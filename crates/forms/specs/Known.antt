@@ -12,7 +12,7 @@ use Rattle.record.specs.declared.Offset.the-variants as offsetIs
 use Rattle.record.specs.declared.Position.the-variants as positionIs
 use Rattle.record.specs.declared.Record.{Record}
 use Rattle.forms.specs.Case.{Case, onesAt, reads, writes}
-use Rattle.forms.specs.Records.{fields, framedOf, splitOf, standardOf, syncedOf}
+use Rattle.forms.specs.Records.{fields, framedOf, placedOf, splitOf, standardOf, syncedOf}
 
 -- Friday 28 July 2045, day 209
 abbrev pub knownDate : Date
@@ -39,6 +39,14 @@ blockFull =
     text "date=45-07-28\ntime=13:56:19\nfraction=2345678\nchannel=1\nsync=yes\nfix=no\nutc=no\nsummer=yes\nchange=no\nleap=yes\n"
     ++ text "offset=-03:45\nposition=-033.8688 +151.2093 0431\ndsp=-\nlsp=no\n"
 
+abbrev pub recordArc : Record
+recordArc = placedOf knownDate 13 56 19 (fractionIs.Hundredths 2) No (positionIs.Minutes (negsuc 202707) (pos 907293))
+
+abbrev pub blockArc : List ℕ
+blockArc =
+    text "date=45-07-28\ntime=13:56:19\nfraction=02\nchannel=-\nsync=no\nfix=-\nutc=-\nsummer=-\nchange=-\nleap=-\n"
+    ++ text "offset=-\nposition=-3347.08 +15112.93\ndsp=-\nlsp=-\n"
+
 -- for each form a string in which no two numbers and no two neighbouring letters are alike: a round trip cannot see two
 -- fields exchanged
 abbrev pub known : List Case
@@ -55,10 +63,13 @@ known =
     ∷ reads "SYSPLEX-1" 6 (text "\u{1}209:13:56:19 \r\n") 0 (syncedOf (dateIs.DayOfYear 209) 13 56 19 Yes)
     ∷ reads "Computime" 7 (text "T:45:07:28:05:13:56:19\r\n") 0 (syncedOf knownDate 13 56 19 Absent)
     ∷ reads "SAT" 10 (text "\u{2}28.07.45/5/13:56:19CEST#!\r\n\u{3}") 0 (standardOf knownDate 13 56 19 No Absent No Yes Yes Absent)
+    ∷ reads "RMC" 12 (text "$GPRMC,135619.02,V,3347.08,S,15112.93,E,0.0,0.0,280745,0.0,E*52\r\n") 0 recordArc
     ∷ writes "IEEE1344 frame" 8 recordFramed 100 0 (frameKnown (75 ∷ []))
     ∷ reads "IEEE1344 frame" 8 (frameKnown (75 ∷ [])) 0 recordFramed
     ∷ writes "frame with the sign as 01 had it" 11 recordFramed 100 0 (frameKnown (64 ∷ []))
     ∷ reads "frame with the sign as 01 had it" 11 (frameKnown (64 ∷ [])) 0 recordFramed
     ∷ writes "block" 9 recordFull 174 0 blockFull
     ∷ reads "block" 9 blockFull 0 recordFull
+    ∷ writes "block of the kinds of RMC" 9 recordArc 174 0 blockArc
+    ∷ reads "block of the kinds of RMC" 9 blockArc 0 recordArc
     ∷ []

@@ -16,6 +16,7 @@ pub mod Forms
 pub mod Records
 pub mod Case
 pub mod Known
+pub mod RmcCases
 pub mod Bench
 pub mod Demand1
 pub mod Demand2
@@ -26,3 +27,4 @@ pub mod WriterNumbers
 pub mod BcdDigits
 pub mod FrameDate
 pub mod FrameSigns
+pub mod NoConversion

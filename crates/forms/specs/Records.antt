@@ -48,6 +48,10 @@ syncedOf d h m s sy = standardOf d h m s sy Absent Absent Absent Absent Absent
 abbrev pub splitOf : Date → ℕ → ℕ → ℕ → Fraction → Channel → Record
 splitOf d h m s f c = fields d h m s f c Absent Absent Absent Absent Absent Absent offsetIs.Absent positionIs.Absent Absent Absent
 
+-- the record of a form that carries the date, a fraction, sync and a position
+abbrev pub placedOf : Date → ℕ → ℕ → ℕ → Fraction → Flag → Position → Record
+placedOf d h m s f sy p = fields d h m s f channelIs.Absent sy Absent Absent Absent Absent Absent offsetIs.Absent p Absent Absent
+
 -- the record of a frame
 abbrev pub framedOf : Date → ℕ → ℕ → ℕ → Flag → Flag → Offset → Flag → Flag → Record
 framedOf d h m s sy su o ds ls =

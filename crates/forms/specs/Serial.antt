@@ -4,9 +4,9 @@ use Rattle.spelling.specs.Spelling.{digits, hex, padded}
 use Rattle.forms.specs.Checksum.{Checksum, exclusiveOr, checksumBy}
 use Rattle.forms.specs.Form.{Form}
 use Rattle.forms.specs.Places.{Layout, letter, lit, one, oneOf, part, two}
-use Rattle.forms.specs.Slots.{altitude, change, channel, day, fix, hour, latitudeDegrees, latitudePart, leap, leapSecond, longitudeDegrees}
-use Rattle.forms.specs.Slots.{longitudePart, minus, minute, month, notice, offsetHours, offsetMinutes, ordinal, second, south, checksum, summer, sync}
-use Rattle.forms.specs.Slots.{tenMillionth, thousandth, weekday, west, year, zone}
+use Rattle.forms.specs.Slots.{altitude, change, channel, checksum, day, fix, hour, hundredth, latitudeDegrees, latitudeHundredth, latitudeMinute, latitudePart}
+use Rattle.forms.specs.Slots.{latitudeWhole, leap, leapSecond, longitudeDegrees, longitudeHundredth, longitudeMinute, longitudePart, longitudeWhole, minus, minute}
+use Rattle.forms.specs.Slots.{month, notice, offsetHours, offsetMinutes, ordinal, second, south, summer, sync, tenMillionth, thousandth, weekday, west, year, zone}
 
 -- 1. `<STX>D:dd.mm.yy;T:w;U:hh.mm.ss;uvxy<ETX>`
 abbrev pub standardLayout : Layout
@@ -98,3 +98,21 @@ satLayout =
 -- "full date, utc and summer by the zone, change by v, and by u the one of sync and fix that the manual's table names"
 abbrev pub sat : Form
 sat = record { size = 29; layout = satLayout; checksums = [] }
+
+-- 12. document 002, 6.3.6: `$GPRMC,hhmmss.ss,A,bbbb.bb,n,lllll.ll,e,0.0,0.0,ddmmyy,0.0,E*hh<CR><LF>`; "Longitude has five digits before the point,
+-- which makes the 65, and leading zeros stay. The zeros for speed, course and variation are fixed bytes, the variation letter is `E`.";
+-- "status becomes sync", of which document 002 has "A = time data valid" and "V = time data not valid"
+abbrev pub rmcLayout : Layout
+rmcLayout =
+    lit "$GPRMC," ∷ two hour ∷ two minute ∷ two second ∷ lit "." ∷ two hundredth ∷ lit "," ∷ letter sync "VA" ∷ lit ","
+    ∷ two latitudeWhole ∷ two latitudeMinute ∷ lit "." ∷ two latitudeHundredth ∷ lit "," ∷ letter south "NS" ∷ lit ","
+    ∷ part (digits 3) longitudeWhole ∷ two longitudeMinute ∷ lit "." ∷ two longitudeHundredth ∷ lit "," ∷ letter west "EW"
+    ∷ lit ",0.0,0.0," ∷ two day ∷ two month ∷ two year ∷ lit ",0.0,E*" ∷ part (hex 2) checksum ∷ lit "\r\n" ∷ []
+
+-- "the NMEA exclusive-or of the bytes between `$` and `*`, digits as in form 4"
+abbrev pub rmcChecksum : Checksum
+rmcChecksum = checksumBy exclusiveOr 1 59
+
+-- "time with hundredths, status, position in degrees and minutes with hundredths, date"
+abbrev pub rmc : Form
+rmc = record { size = 65; layout = rmcLayout; checksums = rmcChecksum ∷ [] }

@@ -5,16 +5,18 @@ use Prim.Native.Nat.{ℕ}
 use lib.Dec.{eqb}
 
 -- what a place can tell; `zone` is utc and summer in one letter, `notice` change and leap in one, `quality` the frame's TFOM; `minus` is 1
--- for an offset below zero, `plus` for one above
+-- for an offset below zero, `plus` for one above; `latitudeWhole` is degrees with a minute and its hundredth behind them, `latitudeDegrees` with
+-- ten-thousandths of a degree
 pub data Slot : Type 0 where
   hour minute second : Slot
   weekday leapSecond deletion daySeconds : Slot
   year month day ordinal : Slot
-  thousandth tenMillionth : Slot
+  thousandth tenMillionth hundredth : Slot
   channel : Slot
   sync quality fix zone utc summer notice change leap dsp lsp : Slot
   minus plus offsetHours offsetMinutes halfHour : Slot
-  south latitudeDegrees latitudePart west longitudeDegrees longitudePart altitude : Slot
+  south latitudeDegrees latitudePart latitudeWhole latitudeMinute latitudeHundredth : Slot
+  west longitudeDegrees longitudePart longitudeWhole longitudeMinute longitudeHundredth altitude : Slot
   checksum : Slot
 
 -- the number of a slot, to tell slots apart
@@ -32,31 +34,38 @@ slotNumber day = 9
 slotNumber ordinal = 10
 slotNumber thousandth = 11
 slotNumber tenMillionth = 12
-slotNumber channel = 13
-slotNumber sync = 14
-slotNumber quality = 15
-slotNumber fix = 16
-slotNumber zone = 17
-slotNumber utc = 18
-slotNumber summer = 19
-slotNumber notice = 20
-slotNumber change = 21
-slotNumber leap = 22
-slotNumber dsp = 23
-slotNumber lsp = 24
-slotNumber minus = 25
-slotNumber plus = 26
-slotNumber offsetHours = 27
-slotNumber offsetMinutes = 28
-slotNumber halfHour = 29
-slotNumber south = 30
-slotNumber latitudeDegrees = 31
-slotNumber latitudePart = 32
-slotNumber west = 33
-slotNumber longitudeDegrees = 34
-slotNumber longitudePart = 35
-slotNumber altitude = 36
-slotNumber checksum = 37
+slotNumber hundredth = 13
+slotNumber channel = 14
+slotNumber sync = 15
+slotNumber quality = 16
+slotNumber fix = 17
+slotNumber zone = 18
+slotNumber utc = 19
+slotNumber summer = 20
+slotNumber notice = 21
+slotNumber change = 22
+slotNumber leap = 23
+slotNumber dsp = 24
+slotNumber lsp = 25
+slotNumber minus = 26
+slotNumber plus = 27
+slotNumber offsetHours = 28
+slotNumber offsetMinutes = 29
+slotNumber halfHour = 30
+slotNumber south = 31
+slotNumber latitudeDegrees = 32
+slotNumber latitudePart = 33
+slotNumber latitudeWhole = 34
+slotNumber latitudeMinute = 35
+slotNumber latitudeHundredth = 36
+slotNumber west = 37
+slotNumber longitudeDegrees = 38
+slotNumber longitudePart = 39
+slotNumber longitudeWhole = 40
+slotNumber longitudeMinute = 41
+slotNumber longitudeHundredth = 42
+slotNumber altitude = 43
+slotNumber checksum = 44
 
 -- two slots are the same
 abbrev pub same : Slot → Slot → Bool

@@ -9,7 +9,7 @@ use Rattle.listener.specs.Listening.{answerTo, hears, nextOf, startedOf}
 use Rattle.lindenscoop.specs.Buffers.{held}
 use Rattle.lindenscoop.specs.State.{listenerOf}
 
--- the bytes that a byte leaves, and its answer, as the contract of `lindenscoop_feed_raw` has them
+-- the bytes that a byte leaves, and its answer, as the contract of `lindenscoop_feed_numbers` has them
 abbrev pub nextIn : List ℕ → ℕ → List ℕ
 nextIn s b = held (nextOf (listenerOf s) b) s
 

@@ -1,4 +1,4 @@
--- A caller who goes over buffers with `lindenscoop_feed_all_raw` is handed what demand 3 says, wherever the buffers' boundaries are.
+-- A caller who goes over buffers with `lindenscoop_feed_all_numbers` is handed what demand 3 says, wherever the buffers' boundaries are.
 use mathlib.Core.Bool.{true}
 use mathlib.Core.List.{List, [], _∷_, _++_, flatten, map}
 use mathlib.Core.Path.{_≡_}
@@ -41,7 +41,7 @@ inNumbers nothing = nothing
 inNumbers (refused c) = refused c
 
 pub record Repeated : Type 0 where
-  -- every byte is answered as by `lindenscoop_feed_raw`, from any state
+  -- every byte is answered as by `lindenscoop_feed_numbers`, from any state
   pub byte-by-byte : (s : List ℕ) (buffers : List (List ℕ)) (seen : List (Answer (List ℕ))) → stateFits s ≡ true → Calls s [] buffers seen
       → seen ≡ map inNumbers (answers nextIn answerIn s (flatten buffers))
   -- from a new listener every byte is answered as by a listener that is fed byte by byte; of what `hears` tells, demand 3 holds

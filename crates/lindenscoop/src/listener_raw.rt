@@ -58,7 +58,7 @@ pub extern "C" fn lindenscoop_start_raw(form: u32, state: &mut [u8]) -> u32
 
 // One byte; the record is changed where one is handed out.
 #[no_mangle]
-pub extern "C" fn lindenscoop_feed_raw(state: &mut [u8], byte: u8, numbers: &mut [u32]) -> u32
+pub extern "C" fn lindenscoop_feed_numbers(state: &mut [u8], byte: u8, numbers: &mut [u32]) -> u32
     ensures { λ n. ⌜ FedAs (now (state .entry)) byte (now (numbers .entry)) n (now (state .exit)) (now (numbers .exit)) ⌝ }
 {
     if !both_fit(state, numbers) {
@@ -82,7 +82,7 @@ pub extern "C" fn lindenscoop_feed_raw(state: &mut [u8], byte: u8, numbers: &mut
 
 // Bytes one after the other, up to the first that is answered by anything but nothing.
 #[no_mangle]
-pub extern "C" fn lindenscoop_feed_all_raw(
+pub extern "C" fn lindenscoop_feed_all_numbers(
     state: &mut [u8],
     bytes: &[u8],
     used: &mut usize,

@@ -7,7 +7,7 @@ use search::Finding;
 
 // The first valid string at or after the start, its place and its record.
 #[no_mangle]
-pub extern "C" fn lindenscoop_search_raw(
+pub extern "C" fn lindenscoop_search_numbers(
     form: u32,
     bytes: &[u8],
     start: usize,

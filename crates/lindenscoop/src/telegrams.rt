@@ -26,7 +26,7 @@ fn write_numbers(form: u32, numbers: &[u32], out: &mut [u8]) -> Writing
 
 // The record of a string.
 #[no_mangle]
-pub extern "C" fn lindenscoop_read_raw(form: u32, input: &[u8], numbers: &mut [u32]) -> u32
+pub extern "C" fn lindenscoop_read_numbers(form: u32, input: &[u8], numbers: &mut [u32]) -> u32
     ensures { λ n. ⌜ ReadAs form (now (input .entry)) (now (numbers .entry)) n (now (numbers .exit)) ⌝ }
 {
     if !record_fits(numbers) {
@@ -47,7 +47,7 @@ pub extern "C" fn lindenscoop_read_raw(form: u32, input: &[u8], numbers: &mut [u
 
 // The string of the record at the head of the numbers.
 #[no_mangle]
-pub extern "C" fn lindenscoop_write_raw(
+pub extern "C" fn lindenscoop_write_numbers(
     form: u32,
     numbers: &[u32],
     out: &mut [u8],

@@ -2,6 +2,7 @@ pub mod Part
 pub mod Numbers
 pub mod Letters
 pub mod Stored
+pub mod Summed
 pub mod Weekday
 pub mod Tests
 pub mod Wrote

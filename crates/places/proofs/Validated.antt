@@ -17,12 +17,13 @@ use Rattle.forms.specs.Checksum.{checksumsHold}
 use Rattle.forms.specs.Fields.Date.{decodeDate, fullDate, hasDate, weekdayInRange, weekdayConsistent}
 use Rattle.forms.specs.Fields.Fraction.{noFraction}
 use Rattle.forms.specs.Fields.Offset.{noOffset, signRule, signSlot}
+use Rattle.forms.specs.Fields.Position.{noPosition}
 use Rattle.forms.specs.Fields.Flag.{decodeFlag}
 use Rattle.forms.specs.Fields.Sign.{signConsistent}
 use Rattle.forms.specs.Fields.Time.{leapConsistent, secondsConsistent}
 use Rattle.forms.specs.Form.{Form, carries, validated, numbersInRange, ranges, readBy, signsConsistent, consistent, valuesBy}
 use Rattle.forms.specs.Places.{Layout, has, isOf, shape, values, width}
-use Rattle.forms.specs.Slots.{Slot, Values, day, daySeconds, deletion, leapSecond, minus, month, offsetMinutes, plus, quality, same, south, utc, weekday, west, year, zone}
+use Rattle.forms.specs.Slots.{Slot, Values, day, daySeconds, deletion, latitudeMinute, leapSecond, longitudeMinute, minus, month, offsetMinutes, plus, quality, same, south, utc, weekday, west, year, zone}
 use Rattle.forms.specs.Decode.{decode, decodeChannel, decodeFraction, decodeOffset, decodePosition}
 use Rattle.forms.proofs.Accepted.{read-validated}
 use Rattle.forms.proofs.Slots.{every, every-slot, slots}
@@ -40,7 +41,8 @@ nowhere (p ∷ ps) k s f h =
 
 -- what a layout can tell beside its record and the weekday, and utc by a letter of its own
 abbrev beside : List Slot
-beside = leapSecond ∷ daySeconds ∷ minus ∷ plus ∷ south ∷ west ∷ utc ∷ offsetMinutes ∷ quality ∷ deletion ∷ []
+beside =
+    leapSecond ∷ daySeconds ∷ minus ∷ plus ∷ south ∷ latitudeMinute ∷ west ∷ longitudeMinute ∷ utc ∷ offsetMinutes ∷ quality ∷ deletion ∷ []
 
 abbrev among : List Slot → Slot → Bool
 among [] f = false
@@ -74,7 +76,7 @@ module _ (d : Form) (s : List ℕ) where
 
   -- what is told twice, but for the weekday
   abbrev pub restConsistent : Bool
-  restConsistent = leapConsistent (carries d .leapSecond) v && (secondsConsistent (carries d .daySeconds) v && (signsConsistent (carries d .offset) v && zoneAgrees decoded))
+  restConsistent = leapConsistent (carries d .leapSecond) v && (secondsConsistent (carries d .daySeconds) v && (signsConsistent (carries d .offset) (carries d .position) v && zoneAgrees decoded))
 
   pub zone-agrees : has (d .layout) utc ≡ false → zoneAgrees decoded ≡ true
   unfolding zoneAgrees carriesOf decodeFlag
@@ -89,6 +91,10 @@ module _ (d : Form) (s : List ℕ) where
   unfolding validated ranges consistent verdict carriesOf weekdayConsistent
   validated-on w m = sym (simp w (on-date decoded (v year) (v month) (v day) (v weekday) _ restConsistent (full-date m)))
 
+  pub validated-off : has (d .layout) weekday ≡ false → verdict (inRange decoded && numbersInRange v) restConsistent decoded ≡ validated (carries d) v
+  unfolding validated ranges consistent verdict carriesOf weekdayConsistent weekdayInRange
+  validated-off w = sym (simp (w, and-true))
+
   module _ (h : isLean (d .layout) ≡ true) where
     lacking : (f : Slot) → among beside f ≡ true → has (d .layout) f ≡ false
     lacking f m = not-true (has (d .layout) f) (simp m at (every-slot (λ f. not (among beside f && has (d .layout) f)) h f))
@@ -98,13 +104,13 @@ module _ (d : Form) (s : List ℕ) where
 
     numbers-lean : numbersInRange v ≡ true
     unfolding numbersInRange
-    numbers-lean = simp (none offsetMinutes refl, none quality refl, none deletion refl)
+    numbers-lean = simp (none offsetMinutes refl, none quality refl, none deletion refl, none latitudeMinute refl, none longitudeMinute refl)
 
     no-sign : (x : SignRule) → v (signSlot x) ≡ 0
     no-sign OneBelow = none minus refl
     no-sign OneAbove = none plus refl
 
-    signs-lean : signsConsistent (carries d .offset) v ≡ true
+    signs-lean : signsConsistent (carries d .offset) (carries d .position) v ≡ true
     unfolding signsConsistent signConsistent
     signs-lean = simp (no-sign (signRule (carries d .offset)), none south refl, none west refl)
 
@@ -119,8 +125,7 @@ module _ (d : Form) (s : List ℕ) where
         ∙ validated-on w m
 
     validated-plain : has (d .layout) weekday ≡ false → verdict (inRange decoded) true decoded ≡ validated (carries d) v
-    unfolding validated ranges consistent verdict carriesOf weekdayConsistent weekdayInRange
-    validated-plain w = sym (simp (w, numbers-lean, rest-lean, and-true))
+    validated-plain w = simp (numbers-lean, rest-lean, and-true) at (validated-off w)
 
 -- the ranges of what a form carries: with date and time those of the rest, which is absent but for what the form carries
 
@@ -129,7 +134,7 @@ unfolding inRange
 both-ranged r a c f g = rw (f, g)
 
 module _ (d : Form) (s : List ℕ) (r : Record) (e : r ≡ decoded d s) where
-  module _ (o : carries d .offset ≡ noOffset) (p : carries d .position ≡ false) where
+  module _ (o : carries d .offset ≡ noOffset) (p : carries d .position ≡ noPosition) where
     pub captured : (x y : Bool) → x ≡ fractionInRange (r .fraction) → y ≡ channelInRange (r .channel) → (x && y) ≡ restInRange r
     unfolding decodeOffset decodePosition offsetInRange positionInRange
     captured x y f g = rw (f, g, e) (sym (simp (o, p, and-true)))
@@ -142,6 +147,11 @@ module _ (d : Form) (s : List ℕ) (r : Record) (e : r ≡ decoded d s) where
       pub timed : carries d .fraction ≡ noFraction → (a : Bool) → a ≡ dateTimeInRange r → a ≡ inRange r
       unfolding decodeFraction fractionInRange
       timed f a g = sym (and-true a) ∙ both-ranged r a true g (divided true (rw e (sym (simp f))))
+
+  pub sited : carries d .channel ≡ false → carries d .offset ≡ noOffset → (x y : Bool) → x ≡ fractionInRange (r .fraction) → y ≡ positionInRange (r .position)
+      → (x && y) ≡ restInRange r
+  unfolding decodeChannel decodeOffset channelInRange offsetInRange
+  sited c o x y g h = rw (g, h, e) (sym (simp (c, o)))
 
   pub located : carries d .fraction ≡ noFraction → carries d .channel ≡ false → (x y : Bool) → x ≡ offsetInRange (r .offset) → y ≡ positionInRange (r .position)
       → (x && y) ≡ restInRange r

@@ -41,3 +41,12 @@ minutesOf s k = numberAt s k 2 * 60 + numberAt s (k + 3) 2
 -- the ten-thousandths of a degree of `ddd.dddd` at k
 abbrev pub degreesOf : List ℕ → ℕ → ℕ
 degreesOf s k = numberAt s k 3 * 10000 + numberAt s (k + 4) 4
+
+-- `mm.hh` stands at k
+abbrev pub arcAt : List ℕ → ℕ → Bool
+arcAt s k =
+    isSpelled (digits 2) (take 2 (drop k s)) && (sameBytes (take 1 (drop (k + 2) s)) (46 ∷ []) && isSpelled (digits 2) (take 2 (drop (k + 3) s)))
+
+-- the hundredths of a minute of `mm.hh` at k
+abbrev pub arcOf : List ℕ → ℕ → ℕ
+arcOf s k = numberAt s k 2 * 100 + numberAt s (k + 3) 2

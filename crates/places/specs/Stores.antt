@@ -1,6 +1,6 @@
 -- Inner: what storing a layout place by place leaves in a buffer.
 use mathlib.Core.List.{List, [], _∷_}
-use Prim.Native.Nat.{ℕ, _+_}
+use Prim.Native.Nat.{ℕ, _+_, _/_, _%_}
 use Rattle.spelling.specs.Bytes.{decimal}
 use Rattle.spelling.specs.Stored.{stored}
 use Rattle.forms.specs.Places.{Layout, placed, width}
@@ -19,3 +19,7 @@ pairsStored o k b x y z =
 -- three numbers of two digits side by side, stored at k
 abbrev pub tripleStored : List ℕ → ℕ → ℕ → ℕ → ℕ → List ℕ
 tripleStored o k x y z = stored (stored (stored o k (decimal 2 x)) (k + 2) (decimal 2 y)) (k + 4) (decimal 2 z)
+
+-- `mm.hh` of so many hundredths of a minute, stored at k; whole degrees are left out
+abbrev pub arcStored : List ℕ → ℕ → ℕ → List ℕ
+arcStored o k n = stored (stored (stored o k (decimal 2 (n % 6000 / 100))) (k + 2) (46 ∷ [])) (k + 3) (decimal 2 (n % 100))

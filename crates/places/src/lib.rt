@@ -1,11 +1,15 @@
 // What the readers and writers of the serial forms share: places of a fixed layout in a lent slice, tested, read and stored, what
 // a layout tells twice, and the tests with which every reader ends and every writer begins.
+mod arc;
 mod inspect;
 mod put;
 mod signs;
 mod weekdays;
 mod writing;
 
+pub use arc::arc_at;
+pub use arc::is_arc;
+pub use arc::put_arc;
 pub use inspect::byte_at;
 pub use inspect::digits_at;
 pub use inspect::flag_at;

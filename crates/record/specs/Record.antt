@@ -28,11 +28,12 @@ dateInRange dateIs.Absent = true
 dateInRange (dateIs.Full y m d) = isDate y m d
 dateInRange (dateIs.DayOfYear n) = leb 1 n && leb n 366
 
--- "thousandths 0..999, or ten-millionths 0..9,999,999"
+-- "thousandths 0..999, or ten-millionths 0..9,999,999"; W-204 "fraction may be hundredths"
 unfoldable pub fractionInRange : Fraction → Bool
 fractionInRange fractionIs.Absent = true
 fractionInRange (fractionIs.Thousandths n) = ltb n 1000
 fractionInRange (fractionIs.TenMillionths n) = ltb n 10000000
+fractionInRange (fractionIs.Hundredths n) = ltb n 100
 
 -- "channel 0 or 1"
 unfoldable pub channelInRange : Channel → Bool
@@ -44,10 +45,12 @@ unfoldable pub offsetInRange : Offset → Bool
 offsetInRange offsetIs.Absent = true
 offsetInRange (offsetIs.Minutes z) = leb (natAbs z) 840
 
--- "latitude -900,000..900,000 and longitude -1,800,000..1,800,000 .. altitude 0..9,999 m"
+-- "latitude -900,000..900,000 and longitude -1,800,000..1,800,000 .. altitude 0..9,999 m"; W-204 "in hundredths of a minute without altitude
+-- (latitude -540,000..540,000, longitude -1,080,000..1,080,000)"
 unfoldable pub positionInRange : Position → Bool
 positionInRange positionIs.Absent = true
 positionInRange (positionIs.Degrees lat lon alt) = leb (natAbs lat) 900000 && (leb (natAbs lon) 1800000 && leb alt 9999)
+positionInRange (positionIs.Minutes lat lon) = leb (natAbs lat) 540000 && leb (natAbs lon) 1080000
 
 -- the time and the date are in range, and the day exists in its month
 abbrev pub dateTimeInRange : Record → Bool

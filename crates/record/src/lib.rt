@@ -15,6 +15,7 @@ pub enum Fraction {
     Absent,
     Thousandths(u32),
     TenMillionths(u32),
+    Hundredths(u32),
 }
 
 pub enum Channel {
@@ -35,13 +36,17 @@ pub enum Offset {
     Minutes(i32),
 }
 
-// Ten-thousandths of a degree, north and east positive, and metres.
+// North and east positive: ten-thousandths of a degree, with metres, or hundredths of a minute. One is never turned into the other.
 pub enum Position {
     Absent,
     Degrees {
         latitude: i32,
         longitude: i32,
         altitude: u32,
+    },
+    Minutes {
+        latitude: i32,
+        longitude: i32,
     },
 }
 

@@ -34,6 +34,7 @@ pub fn fraction_in_range(fraction: Fraction) -> bool
         Fraction::Absent => true,
         Fraction::Thousandths(n) => n < 1000,
         Fraction::TenMillionths(n) => n < 10000000,
+        Fraction::Hundredths(n) => n < 100,
     }
 }
 
@@ -68,6 +69,10 @@ pub fn position_in_range(position: Position) -> bool
             (magnitude(latitude) <= 900000)
                 & ((magnitude(longitude) <= 1800000) & (altitude <= 9999))
         }
+        Position::Minutes {
+            latitude,
+            longitude,
+        } => (magnitude(latitude) <= 540000) & (magnitude(longitude) <= 1080000),
     }
 }
 

@@ -37,6 +37,7 @@ pub fn shape_of(form: u32) -> Shape
         6 => shaped(16, 1, b'\n'),
         7 => shaped(24, b'T', b'\n'),
         10 => shaped(29, 2, 3),
+        12 => shaped(65, b'$', b'\n'),
         _ => shaped(0, 0, 0),
     }
 }
@@ -76,6 +77,9 @@ pub fn read(form: u32, s: &[u8]) -> Reading
         10 => {
             return sat::read(s);
         }
+        12 => {
+            return rmc::read(s);
+        }
         _ => {}
     }
     Reading::Refused(Refusal::UnknownForm)
@@ -93,6 +97,7 @@ pub fn write(form: u32, r: Record, out: &mut [u8]) -> Writing
         6 => sysplex::write(r, out),
         7 => computime::write(r, out),
         10 => sat::write(r, out),
+        12 => rmc::write(r, out),
         _ => Writing::Refused(Refusal::UnknownForm),
     }
 }

@@ -15,7 +15,7 @@
 
 enum { STREAM = 600, ROOM = 200, ANSWERS = LINDENSCOOP_HEARD + 1 };
 
-static const uint32_t serial_forms[] = {1, 2, 3, 4, 5, 6, 7, 10}, other_forms[] = {0, 8, 9, 11, 12, 255, 266, 4294967295};
+static const uint32_t serial_forms[] = {1, 2, 3, 4, 5, 6, 7, 10, 12}, other_forms[] = {0, 8, 9, 11, 15, 255, 266, 4294967295};
 
 static unsigned long long first_seed = 1, calls, seen[ANSWERS];
 static uint32_t form;
@@ -65,8 +65,8 @@ static void compare_write(uint32_t to, const lindenscoop_record *r, size_t room)
 /* One number of a record replaced by one that is often just outside a range. */
 static void replace_number(lindenscoop_record *r)
 {
-    static const uint32_t values[] = {0,   1,   2,    3,     24,     60,     61,     99,      100,     366,      367,        840,
-                                      841, 999, 1000, 10000, 899999, 900001, 900000, 1800001, 9999999, 10000000, 2147483647, 4294967295};
+    static const uint32_t values[] = {0, 1, 2, 3, 4, 24, 60, 61, 99, 100, 366, 367, 840, 841, 999, 1000, 10000, 540000, 540001, 899999,
+                                      900000, 900001, 1080000, 1080001, 1800001, 9999999, 10000000, 2147483647, 4294967295};
     ((uint32_t *)r)[below(LINDENSCOOP_RECORD_NUMBERS)] = values[below(sizeof values / sizeof *values)];
 }
 
@@ -80,7 +80,7 @@ static void remove_field(lindenscoop_record *r)
 
 static void compare_writers(void)
 {
-    static const uint32_t forms[] = {0, 1, 2, 3, 4, 5, 6, 7, 9, 9, 10, 15, 266, 4294967295};
+    static const uint32_t forms[] = {0, 1, 2, 3, 4, 5, 6, 7, 9, 9, 10, 12, 15, 266, 4294967295};
     lindenscoop_record r;
     random_record(form, &r);
     compare_write(form, &r, plain_shapes[form].length - 1 + below(3));
@@ -90,7 +90,8 @@ static void compare_writers(void)
     if (below(2))
         replace_number(&r);
     compare_write(LINDENSCOOP_BLOCK, &r, 118 + below(60));
-    random_record(form, &r);
+    /* A record made for the block has fields of any kind, so some are not of the form's. */
+    random_record(below(4) ? form : LINDENSCOOP_BLOCK, &r);
     if (below(2))
         remove_field(&r);
     if (below(2))

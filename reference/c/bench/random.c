@@ -64,25 +64,47 @@ static void random_date(uint32_t form, lindenscoop_record *r)
     } while (!calendar_is_date(r->year, r->month, r->day));
 }
 
-/* One degree in four is near zero, where the padding is longest. */
-static int32_t random_degrees(uint32_t limit)
+/* The kind that the form carries, and any kind for the block. */
+static void random_fraction(uint32_t form, lindenscoop_record *r)
 {
-    const uint32_t n = below(4) ? between(0, limit) : below(20000);
-    return below(2) ? (int32_t)n : -(int32_t)n;
+    static const uint32_t last[] = {[LINDENSCOOP_THOUSANDTHS] = 999, [LINDENSCOOP_TEN_MILLIONTHS] = 9999999, [LINDENSCOOP_HUNDREDTHS] = 99};
+    switch (form) {
+    case LINDENSCOOP_SPA: r->fraction = LINDENSCOOP_THOUSANDTHS; break;
+    case LINDENSCOOP_RMC: r->fraction = LINDENSCOOP_HUNDREDTHS; break;
+    case LINDENSCOOP_BLOCK: r->fraction = 1 + below(3); break;
+    default: r->fraction = LINDENSCOOP_TEN_MILLIONTHS; break;
+    }
+    r->fraction_units = between(0, last[r->fraction]);
+}
+
+/* One angle in four is near zero, where the padding is longest. */
+static uint32_t random_angle(uint32_t limit)
+{
+    return below(4) ? between(0, limit) : below(20000);
+}
+
+/* A zero may have a sign, which must be dropped, and minutes an altitude, which must not be looked at. */
+static void random_position(uint32_t form, lindenscoop_record *r)
+{
+    const bool minutes = form == LINDENSCOOP_RMC || (form == LINDENSCOOP_BLOCK && below(2));
+    r->position = minutes ? LINDENSCOOP_MINUTES : LINDENSCOOP_DEGREES;
+    r->south = below(2);
+    r->latitude_units = random_angle(minutes ? 540000 : 900000);
+    r->west = below(2);
+    r->longitude_units = random_angle(minutes ? 1080000 : 1800000);
+    r->altitude_metres = below(4) ? between(0, 9999) : below(100);
 }
 
 void random_record(uint32_t form, lindenscoop_record *r)
 {
     *r = (lindenscoop_record){.hour = between(0, 23), .minute = between(0, 59), .second = below(50) ? below(60) : 60};
     random_date(form, r);
-    const bool thousandths = form == LINDENSCOOP_SPA || (form == LINDENSCOOP_BLOCK && below(2));
-    r->fraction = thousandths ? LINDENSCOOP_THOUSANDTHS : LINDENSCOOP_TEN_MILLIONTHS;
-    r->fraction_value = between(0, thousandths ? 999 : 9999999);
+    random_fraction(form, r);
     r->channel = LINDENSCOOP_PRESENT;
     r->channel_number = below(2);
     random_flags(form, r);
     lindenscoop_set_offset(r, below(8) ? (int32_t)between(0, 1680) - 840 : 0);
-    lindenscoop_set_position(r, random_degrees(900000), random_degrees(1800000), below(4) ? between(0, 9999) : below(100));
+    random_position(form, r);
 }
 
 void random_string(uint32_t form, uint8_t *out)
@@ -95,7 +117,7 @@ void random_string(uint32_t form, uint8_t *out)
 
 static uint8_t other_byte(uint8_t old)
 {
-    static const char usual[] = " 0123456789+-:.;/?#*US!ALNEWmDTCHXG>\1\2\3\r\n";
+    static const char usual[] = " 0123456789+-:.,;/?#*US!ALNEVWmDTCHXG>$\1\2\3\r\n";
     if (below(2) && '0' <= old && old <= '9')
         return (uint8_t)('0' + below(10));
     switch (below(3)) {
@@ -119,6 +141,21 @@ static void put_edge_values(uint8_t *s)
     }
 }
 
+/* Places that are just good or just bad, and now and then a variation to the west, put into a string of form 12. */
+static void put_rmc_edge_values(uint8_t *s)
+{
+    static const char latitudes[][10] = {"9000.00,N", "9000.00,S", "9000.01,N", "9000.01,S", "8959.99,S", "8960.00,N", "9059.99,N",
+                                         "9060.00,S", "0000.00,N", "0000.00,S", "0000.01,S", "0060.00,N", " 000.00,N", "0 21.00,N"};
+    static const char longitudes[][11] = {"18000.00,E", "18000.00,W", "18000.01,E", "18000.01,W", "17959.99,W", "17960.00,E", "18059.99,E",
+                                          "18060.00,W", "00000.00,E", "00000.00,W", "00000.01,W", "00060.00,E", "  000.00,E", "00 03.75,E"};
+    if (below(4))
+        memcpy(s + 19, latitudes[below(sizeof latitudes / sizeof *latitudes)], 9);
+    if (below(4))
+        memcpy(s + 29, longitudes[below(sizeof longitudes / sizeof *longitudes)], 10);
+    if (below(16) == 0)
+        s[59] = 'W';
+}
+
 /* The words of document 004, those of the other manuals, and words padded or spelled otherwise, put into a string of form 10. */
 static void put_zone(uint8_t *s)
 {
@@ -127,22 +164,40 @@ static void put_zone(uint8_t *s)
     memcpy(s + 20, words[below(sizeof words / sizeof *words)], 4);
 }
 
-void damage(uint32_t form, uint8_t *string)
+static void change_bytes(uint32_t form, uint8_t *s)
 {
-    if (form == LINDENSCOOP_ERLANGEN && below(3)) {
-        put_edge_values(string);
-        return;
-    }
-    if (form == LINDENSCOOP_SAT && below(3) == 0) {
-        put_zone(string);
-        return;
-    }
     for (uint32_t times = 1 + below(3); times > 0; times--) {
-        uint8_t *b = string + below(plain_shapes[form].length);
+        uint8_t *b = s + below(plain_shapes[form].length);
         *b = other_byte(*b);
     }
-    if (form == LINDENSCOOP_SPA && below(4))
-        put_hex(string + 29, plain_spa_sum(string));
+}
+
+/* The right sum, three times in four; now and then its letters are small ones, which the forms do not have. */
+static void put_sum(uint8_t *s, uint8_t sum)
+{
+    if (below(4) == 0)
+        return;
+    put_hex(s, sum);
+    if (below(16) == 0) {
+        s[0] |= 0x20;
+        s[1] |= 0x20;
+    }
+}
+
+void damage(uint32_t form, uint8_t *string)
+{
+    if (form == LINDENSCOOP_ERLANGEN && below(3))
+        put_edge_values(string);
+    else if (form == LINDENSCOOP_SAT && below(3) == 0)
+        put_zone(string);
+    else if (form == LINDENSCOOP_RMC && below(2))
+        put_rmc_edge_values(string);
+    else
+        change_bytes(form, string);
+    if (form == LINDENSCOOP_SPA)
+        put_sum(string + 29, plain_spa_sum(string));
+    if (form == LINDENSCOOP_RMC)
+        put_sum(string + 61, plain_rmc_sum(string));
 }
 
 size_t random_piece(uint32_t form, uint8_t *out)

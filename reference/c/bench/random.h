@@ -14,7 +14,7 @@ void random_record(uint32_t form, lindenscoop_record *record);
 void random_string(uint32_t form, uint8_t *out);
 
 /* Changes one to three bytes of a string, mostly into bytes that might stand there, or puts in values at the edge of a range or a word
-   that may be no zone; an SPA sum is often made right again. */
+   that may be no zone; a sum is often made right again. */
 void damage(uint32_t form, uint8_t *string);
 
 /* A piece of a damaged stream: a string, a damaged one, a part of one, start bytes, noise. Its length, PLAIN_LONGEST at the most. */

@@ -2,6 +2,35 @@
 
 use lindenscoop::{Date, Fraction, Position, Record};
 
+fn fraction(fraction: reference::Fraction) -> Fraction {
+    match fraction {
+        reference::Fraction::Hundredths(value) => Fraction::Hundredths(value),
+        reference::Fraction::Thousandths(value) => Fraction::Thousandths(value),
+        reference::Fraction::TenMillionths(value) => Fraction::TenMillionths(value),
+    }
+}
+
+fn position(position: reference::Position) -> Position {
+    match position {
+        reference::Position::Degrees {
+            latitude,
+            longitude,
+            altitude,
+        } => Position::Degrees {
+            latitude,
+            longitude,
+            altitude,
+        },
+        reference::Position::Minutes {
+            latitude,
+            longitude,
+        } => Position::Minutes {
+            latitude,
+            longitude,
+        },
+    }
+}
+
 pub fn record(r: &reference::Record) -> Record {
     Record {
         hour: r.hour,
@@ -11,10 +40,7 @@ pub fn record(r: &reference::Record) -> Record {
             reference::Date::Full { year, month, day } => Date::Full { year, month, day },
             reference::Date::DayOfYear(day) => Date::DayOfYear(day),
         }),
-        fraction: r.fraction.map(|fraction| match fraction {
-            reference::Fraction::Thousandths(value) => Fraction::Thousandths(value),
-            reference::Fraction::TenMillionths(value) => Fraction::TenMillionths(value),
-        }),
+        fraction: r.fraction.map(fraction),
         channel: r.channel,
         sync: r.sync,
         fix: r.fix,
@@ -23,11 +49,7 @@ pub fn record(r: &reference::Record) -> Record {
         change: r.change,
         leap: r.leap,
         offset: r.offset,
-        position: r.position.map(|p| Position {
-            latitude: p.latitude,
-            longitude: p.longitude,
-            altitude: p.altitude,
-        }),
+        position: r.position.map(position),
         dsp: r.dsp,
         lsp: r.lsp,
     }

@@ -1,6 +1,6 @@
-//! Compares the library with the independent reference program on seeded requests, over the whole calendar and every offset of the frames, and with the vectors.
+//! Compares the library with the independent reference program on seeded requests, over the whole calendar, every offset of the frames and every degree, minute, byte and kind of the RMC string, and with the vectors.
 //!
-//!     differential SEED COUNT VECTORS  compares COUNT requests, every date, every offset and every line of VECTORS
+//!     differential SEED COUNT VECTORS  compares COUNT requests, every date, every offset, every minute and every line of VECTORS
 //!     differential VECTORS             compares the lines alone
 //!
 //! VECTORS is a file of lines, or a folder whose `.txt` files have them; vectors/README.md describes a line. A mismatch is printed and fails. Before that it plants a fault on either side, and fails if that is not noticed.
@@ -12,7 +12,7 @@ use std::path::Path;
 use std::process::ExitCode;
 
 use reference::generate::Requests;
-use reference::{every_date, every_offset};
+use reference::{every_date, every_minute, every_offset};
 
 mod answers;
 mod convert;
@@ -38,7 +38,7 @@ fn notices_faults(seed: u64) -> bool {
     })
 }
 
-/// How many differing answers of the calendar are printed.
+/// How many differing answers of a list are printed.
 const PRINTED: usize = 20;
 
 fn print_mismatch(request: &str, library: &str, reference: &str) {
@@ -108,7 +108,9 @@ fn main() -> Result<ExitCode, Box<dyn Error>> {
             let (asked, mismatches) = compare(seed, count.parse()?);
             let calendar = list_agrees("calendar", every_date::requests());
             let offsets = list_agrees("offsets", every_offset::requests());
-            vectors_agree(path)? && calendar && offsets && asked > 0 && mismatches == 0
+            let minutes = list_agrees("minutes", every_minute::requests());
+            let lists = calendar && offsets && minutes;
+            vectors_agree(path)? && lists && asked > 0 && mismatches == 0
         }
         _ => return Err("usage: differential [SEED COUNT] VECTORS".into()),
     };

@@ -150,7 +150,7 @@ fn the_erlangen_string() {
         summer: Some(false),
         change: Some(false),
         leap: Some(false),
-        position: Some(Position {
+        position: Some(Position::Degrees {
             latitude: 473_500,
             longitude: 80_625,
             altitude: 431,

@@ -1,5 +1,7 @@
-//! Section "The block": form 9, fourteen lines of key, `=`, value, each closed by LF.
+//! Section "The block": form 9, fourteen lines of key, `=`, value, each closed by LF. Document 02,
+//! W-204, adds a kind of fraction and a kind of position.
 
+use crate::minutes::{size_of, spell_size, LATITUDE_DIGITS, LONGITUDE_DIGITS};
 use crate::record::{
     channel_in_range, offset_in_range, time_in_range, Date, Fraction, Position, Record,
 };
@@ -30,6 +32,16 @@ fn is_sign(byte: u8) -> bool {
     byte == b'+' || byte == b'-'
 }
 
+/// `+047.3500 +008.0625 0431`.
+fn is_in_degrees(value: &[u8]) -> bool {
+    spelled(value, b"~###.#### ~###.#### ####") && is_sign(value[0]) && is_sign(value[10])
+}
+
+/// `+4721.00 +00803.75` (document 02, W-204).
+fn is_in_minutes(value: &[u8]) -> bool {
+    spelled(value, b"~####.## ~#####.##") && is_sign(value[0]) && is_sign(value[9])
+}
+
 fn value_is_spelled(key: &str, value: &[u8]) -> bool {
     if value == ABSENT {
         return key != "time";
@@ -37,12 +49,13 @@ fn value_is_spelled(key: &str, value: &[u8]) -> bool {
     match key {
         "date" => spelled(value, b"##-##-##") || spelled(value, b"day-###"),
         "time" => spelled(value, b"##:##:##"),
-        "fraction" => spelled(value, b"###") || spelled(value, b"#######"),
+        "fraction" => [&b"##"[..], b"###", b"#######"]
+            .iter()
+            .any(|digits| spelled(value, digits)),
         "channel" => spelled(value, b"#"),
         "offset" => spelled(value, b"~##:##") && is_sign(value[0]),
-        "position" => {
-            spelled(value, b"~###.#### ~###.#### ####") && is_sign(value[0]) && is_sign(value[10])
-        }
+        // Half of the one and half of the other is neither.
+        "position" => is_in_degrees(value) || is_in_minutes(value),
         _ => value == b"yes" || value == b"no",
     }
 }
@@ -54,6 +67,11 @@ struct Signed {
 }
 
 impl Signed {
+    fn new(sign: u8, size: i32) -> Self {
+        let minus = sign == b'-';
+        Signed { minus, size }
+    }
+
     fn value(&self) -> i32 {
         if self.minus {
             -self.size
@@ -83,6 +101,7 @@ fn date_of(value: &[u8]) -> Option<Date> {
 
 fn fraction_of(value: &[u8]) -> Option<Fraction> {
     match value.len() {
+        2 => Some(Fraction::Hundredths(number(value))),
         3 => Some(Fraction::Thousandths(number(value))),
         7 => Some(Fraction::TenMillionths(number(value))),
         _ => None,
@@ -97,21 +116,55 @@ fn flag_of(value: &[u8]) -> Option<bool> {
     (value != ABSENT).then(|| value == b"yes")
 }
 
-/// The ten-thousandths of a degree spelled `+047.3500`.
-fn degrees_of(value: &[u8]) -> Signed {
-    Signed {
-        minus: value[0] == b'-',
-        size: (number(&value[1..4]) * 10_000 + number(&value[5..9])) as i32,
-    }
+/// The minutes spelled `+01:00`.
+fn offset_of(value: &[u8]) -> Result<Signed, u32> {
+    let hours = number(&value[1..3]) as i32;
+    let minutes = number(&value[4..6]) as i32;
+    require(minutes <= 59, 4)?;
+    let offset = Signed::new(value[0], hours * 60 + minutes);
+    require(offset_in_range(offset.size), 4)?;
+    Ok(offset)
 }
 
-pub fn read_block(input: &[u8]) -> Result<Record, u32> {
-    let value = values(input).ok_or(3u32)?;
-    for (key, value) in KEYS.iter().zip(&value) {
-        require(value_is_spelled(key, value), 3)?;
-    }
+/// The ten-thousandths of a degree spelled `+047.3500`.
+fn degrees_of(value: &[u8]) -> Signed {
+    let size = number(&value[1..4]) * 10_000 + number(&value[5..9]);
+    Signed::new(value[0], size as i32)
+}
 
-    let mut record = Record {
+/// The hundredths of a minute spelled `+4721.00` or `+00803.75`.
+fn minutes_of(value: &[u8]) -> Result<Signed, u32> {
+    Ok(Signed::new(value[0], size_of(&value[1..])?))
+}
+
+/// A position of either kind, and whether a minus stands on a zero in it.
+fn position_of(value: &[u8]) -> Result<(Position, bool), u32> {
+    let (latitude, longitude, position) = if is_in_minutes(value) {
+        let latitude = minutes_of(&value[0..8])?;
+        let longitude = minutes_of(&value[9..18])?;
+        let position = Position::Minutes {
+            latitude: latitude.value(),
+            longitude: longitude.value(),
+        };
+        (latitude, longitude, position)
+    } else {
+        let latitude = degrees_of(&value[0..9]);
+        let longitude = degrees_of(&value[10..19]);
+        let position = Position::Degrees {
+            latitude: latitude.value(),
+            longitude: longitude.value(),
+            altitude: number(&value[20..24]),
+        };
+        (latitude, longitude, position)
+    };
+    require(position.in_range(), 4)?;
+    let minus_on_zero = latitude.minus_on_zero() || longitude.minus_on_zero();
+    Ok((position, minus_on_zero))
+}
+
+/// What the well spelled lines say without offset and position, whatever their ranges.
+fn record_of(value: &[&[u8]]) -> Record {
+    Record {
         date: date_of(value[0]),
         hour: number(&value[1][0..2]),
         minute: number(&value[1][3..5]),
@@ -127,33 +180,29 @@ pub fn read_block(input: &[u8]) -> Result<Record, u32> {
         dsp: flag_of(value[12]),
         lsp: flag_of(value[13]),
         ..Record::default()
-    };
+    }
+}
+
+pub fn read_block(input: &[u8]) -> Result<Record, u32> {
+    let value = values(input).ok_or(3u32)?;
+    for (key, value) in KEYS.iter().zip(&value) {
+        require(value_is_spelled(key, value), 3)?;
+    }
+
+    let mut record = record_of(&value);
     let mut minus_on_zero = false;
     require(record.date.is_none_or(|date| date.in_range()), 4)?;
     require(time_in_range(record.hour, record.minute, record.second), 4)?;
     require(record.channel.is_none_or(channel_in_range), 4)?;
     if value[10] != ABSENT {
-        let minutes = number(&value[10][4..6]) as i32;
-        let offset = Signed {
-            minus: value[10][0] == b'-',
-            size: number(&value[10][1..3]) as i32 * 60 + minutes,
-        };
-        require(minutes <= 59, 4)?;
-        require(offset_in_range(offset.size), 4)?;
+        let offset = offset_of(value[10])?;
         record.offset = Some(offset.value());
         minus_on_zero |= offset.minus_on_zero();
     }
     if value[11] != ABSENT {
-        let latitude = degrees_of(&value[11][0..9]);
-        let longitude = degrees_of(&value[11][10..19]);
-        let position = Position {
-            latitude: latitude.value(),
-            longitude: longitude.value(),
-            altitude: number(&value[11][20..24]),
-        };
-        require(position.in_range(), 4)?;
+        let (position, on_zero) = position_of(value[11])?;
         record.position = Some(position);
-        minus_on_zero |= latitude.minus_on_zero() || longitude.minus_on_zero();
+        minus_on_zero |= on_zero;
     }
 
     require(!minus_on_zero, 5)?;
@@ -178,6 +227,7 @@ fn spell_date(date: Date) -> String {
 
 fn spell_fraction(fraction: Fraction) -> String {
     match fraction {
+        Fraction::Hundredths(number) => format!("{number:02}"),
         Fraction::Thousandths(number) => format!("{number:03}"),
         Fraction::TenMillionths(number) => format!("{number:07}"),
     }
@@ -197,10 +247,30 @@ fn spell_degrees(value: i32) -> String {
     format!("{}{:03}.{:04}", sign(value), size / 10_000, size % 10_000)
 }
 
+fn spell_minutes(value: i32, digits: usize) -> String {
+    format!("{}{}", sign(value), spell_size(value, digits))
+}
+
 fn spell_position(position: Position) -> String {
-    let latitude = spell_degrees(position.latitude);
-    let longitude = spell_degrees(position.longitude);
-    format!("{latitude} {longitude} {:04}", position.altitude)
+    match position {
+        Position::Degrees {
+            latitude,
+            longitude,
+            altitude,
+        } => {
+            let latitude = spell_degrees(latitude);
+            let longitude = spell_degrees(longitude);
+            format!("{latitude} {longitude} {altitude:04}")
+        }
+        Position::Minutes {
+            latitude,
+            longitude,
+        } => {
+            let latitude = spell_minutes(latitude, LATITUDE_DIGITS);
+            let longitude = spell_minutes(longitude, LONGITUDE_DIGITS);
+            format!("{latitude} {longitude}")
+        }
+    }
 }
 
 pub fn write_block(record: &Record) -> Vec<u8> {
@@ -236,10 +306,9 @@ pub fn write_block(record: &Record) -> Vec<u8> {
 mod tests {
     use super::*;
 
-    #[test]
-    fn the_shortest_and_the_longest_block() {
-        assert_eq!(write_block(&Record::default()).len(), 118);
-        let longest = Record {
+    /// A record of which every line is at its longest.
+    fn longest_record() -> Record {
+        Record {
             date: Some(Date::Full {
                 year: 24,
                 month: 2,
@@ -254,7 +323,7 @@ mod tests {
             change: Some(true),
             leap: Some(true),
             offset: Some(-1),
-            position: Some(Position {
+            position: Some(Position::Degrees {
                 latitude: -1,
                 longitude: -1,
                 altitude: 0,
@@ -262,9 +331,26 @@ mod tests {
             dsp: Some(true),
             lsp: Some(true),
             ..Record::default()
-        };
+        }
+    }
+
+    #[test]
+    fn the_shortest_and_the_longest_block() {
+        assert_eq!(write_block(&Record::default()).len(), 118);
+        let longest = longest_record();
         assert_eq!(write_block(&longest).len(), 174);
         assert_eq!(read_block(&write_block(&longest)), Ok(longest));
+        // The kinds of W-204 are shorter than the longest of document 01: "118 and 174 hold".
+        let other_kinds = Record {
+            fraction: Some(Fraction::Hundredths(0)),
+            position: Some(Position::Minutes {
+                latitude: -1,
+                longitude: -1,
+            }),
+            ..longest
+        };
+        assert_eq!(write_block(&other_kinds).len(), 174 - 5 - 6);
+        assert_eq!(read_block(&write_block(&other_kinds)), Ok(other_kinds));
     }
 
     #[test]
@@ -280,7 +366,7 @@ mod tests {
             sync: Some(true),
             fix: Some(false),
             offset: Some(60),
-            position: Some(Position {
+            position: Some(Position::Degrees {
                 latitude: 473_500,
                 longitude: 80_625,
                 altitude: 431,
@@ -289,5 +375,80 @@ mod tests {
         };
         assert_eq!(read_block(text.as_bytes()), Ok(record));
         assert_eq!(write_block(&record), text.as_bytes());
+    }
+
+    /// A block in which fraction and position stand alone beside the time.
+    fn block(fraction: &str, position: &str) -> Vec<u8> {
+        let flags = "sync=-\nfix=-\nutc=-\nsummer=-\nchange=-\nleap=-\n";
+        let head = format!("date=-\ntime=00:00:00\nfraction={fraction}\nchannel=-\n");
+        format!("{head}{flags}offset=-\nposition={position}\ndsp=-\nlsp=-\n").into_bytes()
+    }
+
+    #[test]
+    fn the_kinds_of_w_204() {
+        for (position, latitude, longitude) in [
+            ("+4721.00 +00803.75", 284_100, 48_375),
+            ("-4721.00 -00803.75", -284_100, -48_375),
+            ("+0000.00 +00000.00", 0, 0),
+            ("-0000.01 +00000.01", -1, 1),
+            ("+8959.99 -17959.99", 539_999, -1_079_999),
+            ("-9000.00 +18000.00", -540_000, 1_080_000),
+        ] {
+            let record = Record {
+                fraction: Some(Fraction::Hundredths(7)),
+                position: Some(Position::Minutes {
+                    latitude,
+                    longitude,
+                }),
+                ..Record::default()
+            };
+            assert_eq!(read_block(&block("07", position)), Ok(record));
+            assert_eq!(write_block(&record), block("07", position));
+        }
+    }
+
+    #[test]
+    fn minutes_are_refused_with_3_4_and_5() {
+        let number = |position: &str| read_block(&block("-", position)).err().unwrap_or(0);
+        for mixed in [
+            "+4721.00 +008.0625 0431",
+            "+4721.00 +008.0625",
+            "+4721.00 +00803.75 0431",
+            "+047.3500 +00803.75",
+            "+047.3500 +00803.75 0431",
+            "+04721.00 +00803.75",
+            "+4721.00 +0803.75",
+            "+4721.00  00803.75",
+            " 4721.00 +00803.75",
+            "+4721.00 + 0803.75",
+            "+4721.00 +00803,75",
+        ] {
+            assert_eq!(number(mixed), 3, "{mixed}");
+        }
+        for outside in [
+            "+9000.01 +00000.00",
+            "-9000.01 +00000.00",
+            "+0000.00 +18000.01",
+            "+8960.00 +00000.00",
+            "+0000.00 -17960.00",
+            "-0060.00 +00000.00",
+            "-0000.00 +18000.01",
+        ] {
+            assert_eq!(number(outside), 4, "{outside}");
+        }
+        for minus_on_zero in ["-0000.00 +00803.75", "+4721.00 -00000.00"] {
+            assert_eq!(number(minus_on_zero), 5, "{minus_on_zero}");
+        }
+    }
+
+    #[test]
+    fn a_fraction_has_two_three_or_seven_digits() {
+        let number = |fraction: &str| read_block(&block(fraction, "-")).err().unwrap_or(0);
+        for good in ["-", "00", "99", "000", "999", "0000000", "9999999"] {
+            assert_eq!(number(good), 0, "{good}");
+        }
+        for bad in ["", "0", "0000", "000000", "00000000", " 0", "0x", "+1"] {
+            assert_eq!(number(bad), 3, "{bad}");
+        }
     }
 }

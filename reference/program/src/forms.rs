@@ -1,13 +1,13 @@
-//! The two calls over all eleven forms, with the tests that do not depend on the bytes.
+//! The two calls over all twelve forms, with the tests that do not depend on the bytes.
 
 use std::ops::RangeInclusive;
 
 use crate::frame::SignRule;
-use crate::record::{Date, Fraction, Record};
-use crate::{block, frame, serial};
+use crate::record::{Date, Fraction, Position, Record};
+use crate::{block, frame, rmc, serial};
 
-/// The forms that are read and written: "readers and writers no longer give 1 for 11".
-pub const FORMS: RangeInclusive<u32> = 1..=11;
+/// The forms that are read and written: "1 and 11 no longer bar 12".
+pub const FORMS: RangeInclusive<u32> = 1..=12;
 
 /// The length of a serial string or of a frame.
 pub fn string_length(form: u32) -> Option<usize> {
@@ -21,13 +21,14 @@ pub fn string_length(form: u32) -> Option<usize> {
         7 => Some(24),
         8 | 11 => Some(100),
         10 => Some(29),
+        12 => Some(65),
         _ => None,
     }
 }
 
-/// The forms that a stream is searched and listened for. Their numbers have a gap, since the SAT
-/// string came after the frame and the block.
-pub const SERIAL_FORMS: [u32; 8] = [1, 2, 3, 4, 5, 6, 7, 10];
+/// The forms that a stream is searched and listened for. Their numbers have gaps, since the SAT and
+/// RMC strings came after the frames and the block.
+pub const SERIAL_FORMS: [u32; 9] = [1, 2, 3, 4, 5, 6, 7, 10, 12];
 
 /// The two frames. Search and listener know neither of them.
 pub const FRAME_FORMS: [u32; 2] = [8, 11];
@@ -81,13 +82,49 @@ pub fn read(form: u32, input: &[u8]) -> Result<Record, u32> {
         7 => serial::read_computime(input),
         8 | 11 => frame::read_frame(sign_rule(form), input),
         10 => serial::read_sat(input),
+        12 => rmc::read_rmc(input),
         _ => block::read_block(input),
+    }
+}
+
+/// "A full date serves form 6": so any kind of date does. The block carries every field and needs
+/// none.
+fn date_fits(form: u32, date: Option<Date>) -> bool {
+    match form {
+        6 => date.is_some(),
+        9 => true,
+        _ => matches!(date, Some(Date::Full { .. })),
+    }
+}
+
+/// Three forms carry a fraction, each a kind of its own.
+fn fraction_fits(form: u32, fraction: Option<Fraction>) -> bool {
+    match form {
+        2 => matches!(fraction, Some(Fraction::TenMillionths(_))),
+        4 => matches!(fraction, Some(Fraction::Thousandths(_))),
+        12 => matches!(fraction, Some(Fraction::Hundredths(_))),
+        _ => true,
+    }
+}
+
+/// Two forms carry a position, each a kind of its own.
+fn position_fits(form: u32, position: Option<Position>) -> bool {
+    match form {
+        3 => matches!(position, Some(Position::Degrees { .. })),
+        12 => matches!(position, Some(Position::Minutes { .. })),
+        _ => true,
     }
 }
 
 /// Whether every field that the form carries is there and of the form's kind.
 pub(crate) fn carried_fields_are_there(form: u32, record: &Record) -> bool {
-    let full_date = matches!(record.date, Some(Date::Full { .. }));
+    date_fits(form, record.date)
+        && fraction_fits(form, record.fraction)
+        && position_fits(form, record.position)
+        && fields_of_one_kind_are_there(form, record)
+}
+
+fn fields_of_one_kind_are_there(form: u32, record: &Record) -> bool {
     let sync = record.sync.is_some();
     let fix = record.fix.is_some();
     let utc = record.utc.is_some();
@@ -95,27 +132,14 @@ pub(crate) fn carried_fields_are_there(form: u32, record: &Record) -> bool {
     let change = record.change.is_some();
     let leap = record.leap.is_some();
     let offset = record.offset.is_some();
+    let pending = record.dsp.is_some() && record.lsp.is_some();
     match form {
-        1 => full_date && sync && fix && utc && summer && change && leap,
-        2 => {
-            full_date
-                && matches!(record.fraction, Some(Fraction::TenMillionths(_)))
-                && record.channel.is_some()
-        }
-        3 => {
-            let position = record.position.is_some();
-            full_date && offset && sync && fix && summer && change && leap && position
-        }
-        4 => full_date && matches!(record.fraction, Some(Fraction::Thousandths(_))),
-        5 => full_date,
-        // "A full date serves form 6": so any kind of date does.
-        6 => record.date.is_some() && sync,
-        7 => full_date,
-        8 | 11 => {
-            let pending = record.dsp.is_some() && record.lsp.is_some();
-            full_date && sync && summer && offset && pending
-        }
-        10 => full_date && sync && utc && summer && change,
+        1 => sync && fix && utc && summer && change && leap,
+        2 => record.channel.is_some(),
+        3 => offset && sync && fix && summer && change && leap,
+        6 | 12 => sync,
+        8 | 11 => sync && summer && offset && pending,
+        10 => sync && utc && summer && change,
         _ => true,
     }
 }
@@ -141,6 +165,7 @@ fn spell(form: u32, record: &Record) -> Vec<u8> {
         7 => serial::write_computime(record),
         8 | 11 => frame::write_frame(sign_rule(form), record),
         10 => serial::write_sat(record),
+        12 => rmc::write_rmc(record),
         _ => block::write_block(record),
     }
 }

@@ -7,7 +7,9 @@ use crate::forms::{FORMS, FRAME_FORMS, SERIAL_FORMS};
 use crate::frame::{bits, digits, is_always_zero, is_mark, put, put_parity};
 use crate::protocol::{hex, spell_fields};
 use crate::record::{Date, Fraction, Position, Record};
-use crate::serial::{number, spa_sum};
+use crate::serial::{number, spa_sum, spell_sum};
+
+mod rmc;
 
 /// The generator "splitmix64".
 #[derive(Clone, Debug)]
@@ -93,20 +95,28 @@ fn good_date(random: &mut Random) -> Date {
 }
 
 fn good_fraction(random: &mut Random) -> Fraction {
-    if random.one_in(2) {
-        Fraction::Thousandths(random.number(999, &[0, 1, 9, 10, 99, 100, 999]))
-    } else {
-        Fraction::TenMillionths(random.number(9_999_999, &[0, 1, 999, 1_000_000, 9_999_999]))
+    match random.below(3) {
+        0 => Fraction::Hundredths(random.number(99, &[0, 1, 9, 10, 98, 99])),
+        1 => Fraction::Thousandths(random.number(999, &[0, 1, 9, 10, 99, 100, 999])),
+        _ => Fraction::TenMillionths(random.number(9_999_999, &[0, 1, 999, 1_000_000, 9_999_999])),
     }
 }
 
 fn good_position(random: &mut Random) -> Position {
+    if random.one_in(2) {
+        good_degrees(random)
+    } else {
+        rmc::good_minutes(random)
+    }
+}
+
+fn good_degrees(random: &mut Random) -> Position {
     let near_zero = [-10_000, -9_999, -1, 0, 1, 9_999, 10_000, 99_999, -100_000];
     let mut latitudes = vec![-900_000, -899_999, 899_999, 900_000];
     let mut longitudes = vec![-1_800_000, -999_999, 1_000_000, 1_799_999, 1_800_000];
     latitudes.extend(near_zero);
     longitudes.extend(near_zero);
-    Position {
+    Position::Degrees {
         latitude: random.signed(900_000, &latitudes),
         longitude: random.signed(1_800_000, &longitudes),
         altitude: random.number(9_999, &[0, 1, 9, 10, 99, 100, 431, 999, 1000, 9999]),
@@ -134,9 +144,9 @@ fn without(record: &Record, field: usize) -> Record {
     thinner
 }
 
-/// A good record of which every field is there, of kinds and values that suit the form.
-fn full_record(form: u32, random: &mut Random) -> Record {
-    let mut record = Record {
+/// A record of which every field is there and in its range.
+fn record_with_every_field(form: u32, random: &mut Random) -> Record {
+    Record {
         date: Some(match form {
             6 | 9 => good_date(random),
             _ => good_full_date(random),
@@ -156,7 +166,12 @@ fn full_record(form: u32, random: &mut Random) -> Record {
         position: Some(good_position(random)),
         dsp: Some(random.one_in(2)),
         lsp: Some(random.one_in(2)),
-    };
+    }
+}
+
+/// A good record of which every field is there, of kinds and values that suit the form.
+fn full_record(form: u32, random: &mut Random) -> Record {
+    let mut record = record_with_every_field(form, random);
     if record.utc_and_summer() {
         if random.one_in(2) {
             record.utc = Some(false);
@@ -172,6 +187,7 @@ fn full_record(form: u32, random: &mut Random) -> Record {
     }
     while !carried_fields_are_there(form, &record) {
         record.fraction = Some(good_fraction(random));
+        record.position = Some(good_position(random));
     }
     record
 }
@@ -207,6 +223,7 @@ fn other_byte(form: u32, old: u8, random: &mut Random) -> u8 {
         2 => old.wrapping_add(random.pick(&[1, 255])),
         _ if FRAME_FORMS.contains(&form) => random.pick(&[0, 1, 2, 3]),
         _ if form == 10 => random.pick(b" 0123456789.:/#*!AUTCESMZutces\x02\x03\r\n"),
+        _ if form == 12 => random.pick(b" 0123456789.,ABCDEFNSWVGPRMabc$*\r\n"),
         _ => random.pick(usual),
     }
 }
@@ -272,6 +289,7 @@ fn date_places(form: u32) -> Option<(usize, usize, usize)> {
         5 => Some((3, 5, 7)),
         7 => Some((2, 5, 8)),
         10 => Some((7, 4, 1)),
+        12 => Some((52, 50, 48)),
         _ => None,
     }
 }
@@ -286,6 +304,7 @@ fn time_places(form: u32) -> [usize; 3] {
         5 => [9, 11, 13],
         6 => [5, 8, 11],
         10 => [12, 15, 18],
+        12 => [7, 9, 11],
         _ => [14, 17, 20],
     }
 }
@@ -422,6 +441,7 @@ fn bend_own(form: u32, s: &mut [u8], random: &mut Random) {
         5 => s[random.below(3)] = random.pick(b"XGUxgu"),
         6 => s[13] = random.pick(b" ??#*"),
         10 => bend_sat(s, random),
+        12 => rmc::bend(s, random),
         _ => put_digits(s, 11, 2, random.pick(&[0, 1, 7, 8, 10, 17, 99])),
     }
 }
@@ -445,7 +465,7 @@ fn put_true_weekday(form: u32, s: &mut [u8]) {
 }
 
 fn put_true_sum(s: &mut [u8]) {
-    let sum = format!("{:02X}", spa_sum(s));
+    let sum = spell_sum(spa_sum(s));
     put_text(s, 29, &sum);
 }
 
@@ -470,6 +490,9 @@ fn bend_serial(form: u32, s: &mut [u8], random: &mut Random) {
     }
     if form == 4 && bent < 2 && !random.one_in(4) {
         put_true_sum(s);
+    }
+    if form == 12 && bent < 2 {
+        rmc::put_true_sum_mostly(s, random);
     }
 }
 
@@ -581,7 +604,7 @@ fn spelled_values(key: &str) -> &'static str {
         "time" => {
             "00:00:00|23:59:60|00:00:60|24:00:00|23:60:00|23:59:61|99:99:99|12:34:56|29:00:00"
         }
-        "fraction" => "-|000|999|001|0000000|9999999|0000001",
+        "fraction" => "-|00|99|01|10|000|999|001|0000000|9999999|0000001",
         "channel" => "-|0|1|2|3|9",
         "offset" => {
             "-|+00:00|-00:00|+14:00|-14:00|+14:01|-14:01|+15:59|-15:59|+13:60|+13:59|+00:60\
@@ -592,7 +615,13 @@ fn spelled_values(key: &str) -> &'static str {
              |+000.0000 -000.0000 0000|-000.0001 -000.0001 0001|+090.0000 +180.0000 9999\
              |-090.0000 -180.0000 9999|+090.0001 +180.0000 9999|-090.0001 +180.0000 9999\
              |+090.0000 +180.0001 9999|-090.0000 -180.0001 9999|+999.9999 -999.9999 9999\
-             |-000.0000 +999.9999 9999"
+             |-000.0000 +999.9999 9999\
+             |+4721.00 +00803.75|-4721.00 -00803.75|+0000.00 +00000.00|-0000.00 +00000.00\
+             |+0000.00 -00000.00|-0000.01 -00000.01|+0059.99 -00059.99|+8959.99 -17959.99\
+             |+9000.00 +18000.00|-9000.00 -18000.00|+9000.01 +18000.00|-9000.01 +00000.00\
+             |+9000.00 +18000.01|+0000.00 -18000.01|+0060.00 +00000.00|-8960.00 +00000.00\
+             |+0000.00 +00060.00|+0000.00 -17960.00|-0000.00 +00060.00|+9060.00 +18060.00\
+             |+9999.99 -99999.99|-0000.00 +18000.01|+0900.00 +01800.00"
         }
         _ => "-|yes|no",
     }
@@ -603,13 +632,19 @@ fn misspelled_values(key: &str) -> &'static str {
     match key {
         "date" => "|day-60|day-06x|DAY-060|day_060|24-1-01|2024-01-01|24.02.29|--|day--|day-0060",
         "time" => "-||1:00:00|00.00.00|00:00:0x|00:00:00 |00:00",
-        "fraction" => "|0|00|0000|000000|00000000|.000|12x|--| 00",
+        "fraction" => "|0|0x| 0|.0|0000|000000|00000000|.000|12x|--| 00",
         "channel" => "|00|01|10|x|--| ",
         "offset" => "|01:00|+1:00|+01:0|+0100| 01:00|+14:00 |--|+|+0x:00",
         "position" => {
             "|047.3500 +008.0625 0431|+47.3500 +008.0625 0431|+047.3500  008.0625 0431\
              |+047,3500 +008.0625 0431|+047.3500 +008.0625 431|+047.3500 +008.0625  431\
-             |+047.3500 +008.0625 -001|+047.3500 +008.0625|--"
+             |+047.3500 +008.0625 -001|+047.3500 +008.0625|--\
+             |+4721.00 +008.0625 0431|+4721.00 +008.0625|+4721.00 +00803.75 0431|+4721.00\
+             |+4721.00 +00803.75 |+047.3500 +00803.75|+047.3500 +00803.75 0431|+00803.75\
+             |+04721.00 +00803.75|+4721.00 +0803.75|+4721.0 +00803.75|+4721.00 +00803.7\
+             |+4721.00  00803.75| 4721.00 +00803.75|+ 721.00 +00803.75|+4721.00 +  803.75\
+             |+4721,00 +00803.75|+4721.00 +00803,75|+4721.00,+00803.75|+47:21.00 +008:03.75\
+             |4721.00N 00803.75E|+4721.00 +00803.7x|+00803.75 +4721.00|+4721.00 -"
         }
         _ => "|Yes|NO|ye|noo|--|1|no ",
     }
@@ -620,8 +655,15 @@ fn block_lines(s: &[u8]) -> Vec<String> {
     text.lines().map(str::to_string).collect()
 }
 
+/// Fraction and position, whose values come in kinds of their own, and in mixtures that are none.
+const LINES_OF_KINDS: [usize; 2] = [2, 11];
+
 fn bend_block_value(lines: &mut [String], random: &mut Random) {
-    let line = random.below(KEYS.len());
+    let line = if random.one_in(4) {
+        random.pick(&LINES_OF_KINDS)
+    } else {
+        random.below(KEYS.len())
+    };
     let key = KEYS[line];
     let value = if random.one_in(4) {
         random.pick_of(misspelled_values(key))
@@ -713,7 +755,17 @@ fn random_elements(random: &mut Random) -> Vec<u8> {
         .collect()
 }
 
-/// The endless list of inputs for one form, 1..11.
+/// Two defects at once: which of them is named first?
+fn two_defects(form: u32, s: Vec<u8>, random: &mut Random) -> Vec<u8> {
+    let s = bent(form, s, random);
+    if form == 12 && random.one_in(2) {
+        rmc::damage_the_sum_hides(s, random)
+    } else {
+        one_byte_changed(form, s, random)
+    }
+}
+
+/// The endless list of inputs for one form, 1..12.
 #[derive(Clone, Debug)]
 pub struct Inputs {
     form: u32,
@@ -757,12 +809,9 @@ impl Iterator for Inputs {
             22 if FRAME_FORMS.contains(&form) => random_elements(random),
             22 if form == 9 => too_long_block(),
             22 if form == 10 => other_padding(s, random),
+            22 if form == 12 => rmc::damage_the_sum_hides(s, random),
             22 | 23 => shuffled(&s, random),
-            // Two defects at once: which of them is named first?
-            _ => {
-                let s = bent(form, s, random);
-                one_byte_changed(form, s, random)
-            }
+            _ => two_defects(form, s, random),
         })
     }
 }
@@ -776,6 +825,7 @@ fn start_byte(form: u32) -> u8 {
         5 => b'X',
         6 => 0x01,
         9 => b'd',
+        12 => b'$',
         _ => b'T',
     }
 }
@@ -801,6 +851,7 @@ pub fn stream(form: u32, random: &mut Random) -> Vec<u8> {
                 stream.extend(valid_string(other, random));
             }
             _ if form == 10 => stream.extend(other_padding(s, random)),
+            _ if form == 12 => stream.extend(rmc::other_sentence(random)),
             // Document 002, section 3.3, what a clock sends between capture strings.
             _ => stream.extend(b"*** capture overrun\r\n"),
         }
@@ -832,6 +883,8 @@ fn spoil(record: &mut Record, random: &mut Random) {
         5 => record.second = random.pick(&[61, 62, 255]),
         6 => {
             record.fraction = Some(random.pick(&[
+                Fraction::Hundredths(100),
+                Fraction::Hundredths(u32::MAX),
                 Fraction::Thousandths(1000),
                 Fraction::Thousandths(u32::MAX),
                 Fraction::TenMillionths(10_000_000),
@@ -844,19 +897,30 @@ fn spoil(record: &mut Record, random: &mut Random) {
     }
 }
 
+/// A position in degrees with one number beyond its range.
+fn bad_degrees(random: &mut Random) -> Position {
+    let (mut latitude, mut longitude, mut altitude) = (473_500, 80_625, 431);
+    match random.below(3) {
+        0 => latitude = random.pick(&[900_001, -900_001, i32::MAX, i32::MIN]),
+        1 => longitude = random.pick(&[1_800_001, -1_800_001, i32::MAX, i32::MIN]),
+        _ => altitude = random.pick(&[10_000, 65_535]),
+    }
+    Position::Degrees {
+        latitude,
+        longitude,
+        altitude,
+    }
+}
+
 fn spoil_position_or_zone(record: &mut Record, random: &mut Random) {
-    let mut position = good_position(random);
-    match random.below(4) {
-        0 => position.latitude = random.pick(&[900_001, -900_001, i32::MAX, i32::MIN]),
-        1 => position.longitude = random.pick(&[1_800_001, -1_800_001, i32::MAX, i32::MIN]),
-        2 => position.altitude = random.pick(&[10_000, 65_535]),
+    match random.below(5) {
+        0 | 1 => record.position = Some(bad_degrees(random)),
+        2 | 3 => record.position = Some(rmc::bad_minutes(random)),
         _ => {
             record.utc = Some(true);
             record.summer = Some(true);
-            return;
         }
     }
-    record.position = Some(position);
 }
 
 /// A record to be written: good, with fields absent or of the other kind, unsayable, or bad.
@@ -867,7 +931,10 @@ pub fn any_record(form: u32, random: &mut Random) -> Record {
     }
     if random.one_in(8) {
         record.date = Some(good_date(random));
-        record.fraction = Some(good_fraction(random));
+    }
+    if random.one_in(8) {
+        record.fraction = (!random.one_in(4)).then(|| good_fraction(random));
+        record.position = (!random.one_in(4)).then(|| good_position(random));
     }
     if random.one_in(8) {
         record.change = Some(true);
@@ -937,13 +1004,28 @@ fn wrong_feed_request(wrong: u32, s: &[u8], random: &mut Random) -> String {
     format!("feed {wrong} {distance} {head} {byte:02x}")
 }
 
-/// Numbers that no reader and no writer knows; two of them are 10 and 11 in their low eight bits.
-/// Later requests make 12 (W-204), 13 (W-213) and 14 (W-214) forms.
-const NOT_A_FORM: [u32; 9] = [0, 12, 13, 14, 15, 255, 266, 267, u32::MAX];
+/// Numbers that no reader and no writer knows; three of them are 10, 11 and 12 in their low eight
+/// bits. Later requests make 13 (W-213) and 14 (W-214) forms.
+const NOT_A_FORM: [u32; 9] = [0, 13, 14, 15, 255, 266, 267, 268, u32::MAX];
 
-/// Numbers that search and listener do not know: those, the two frames and the block; and form 10,
-/// which a stream of another form is then searched for.
-const NOT_THIS_FORM: [u32; 13] = [0, 8, 9, 10, 11, 12, 13, 14, 15, 255, 266, 267, u32::MAX];
+/// Numbers that search and listener do not know: those, the two frames and the block; and forms 10
+/// and 12, which a stream of another form is then searched for.
+const NOT_THIS_FORM: [u32; 14] = [
+    0,
+    8,
+    9,
+    10,
+    11,
+    12,
+    13,
+    14,
+    15,
+    255,
+    266,
+    267,
+    268,
+    u32::MAX,
+];
 
 /// The endless list of requests over all forms and kinds.
 #[derive(Clone, Debug)]
@@ -1057,7 +1139,7 @@ mod tests {
         match form {
             1 | 3 | 7 | 9 | 10 => &[0, 2, 3, 4, 5],
             4 => &[0, 2, 3, 4, 6],
-            8 | 11 => &[0, 2, 3, 4, 5, 6],
+            8 | 11 | 12 => &[0, 2, 3, 4, 5, 6],
             _ => &[0, 2, 3, 4],
         }
     }
@@ -1129,15 +1211,18 @@ mod tests {
     }
 
     #[test]
-    fn one_byte_replaced_in_an_spa_string_is_refused() {
-        let mut random = Random::new(4);
-        for _ in 0..20 {
-            let good = valid_string(4, &mut random);
-            for place in 0..good.len() {
-                for byte in (0..=255).filter(|byte| *byte != good[place]) {
-                    let mut changed = good.clone();
-                    changed[place] = byte;
-                    assert!(matches!(read(4, &changed), Err(3 | 6)));
+    fn one_byte_replaced_in_a_string_with_a_sum_is_refused() {
+        // Demand 2 says it of the SPA string; the sum of the RMC string tells as much.
+        for form in [4, 12] {
+            let mut random = Random::new(4);
+            for _ in 0..20 {
+                let good = valid_string(form, &mut random);
+                for place in 0..good.len() {
+                    for byte in (0..=255).filter(|byte| *byte != good[place]) {
+                        let mut changed = good.clone();
+                        changed[place] = byte;
+                        assert!(matches!(read(form, &changed), Err(3 | 6)));
+                    }
                 }
             }
         }
@@ -1211,7 +1296,7 @@ mod tests {
     }
 
     #[test]
-    fn the_requests_of_forms_8_10_and_11_and_their_neighbours_meet_every_answer() {
+    fn the_requests_of_forms_8_and_10_to_12_and_their_neighbours_meet_every_answer() {
         let mut seen: BTreeMap<String, BTreeSet<String>> = BTreeMap::new();
         for request in Requests::new(8).take(80_000) {
             let answer = answer(&request);
@@ -1221,15 +1306,19 @@ mod tests {
         }
         let met = |kind: &str| seen[kind].iter().cloned().collect::<Vec<_>>().join(" ");
         assert_eq!(met("read 10"), "0 2 3 4 5");
-        assert_eq!(met("writeraw 10"), "0 10 7 8");
-        assert_eq!(met("search 10"), "0 12");
-        assert_eq!(met("listen 10"), "- records");
-        assert_eq!(met("feed 10"), "!11 !13 - record");
+        assert_eq!(met("read 12"), "0 2 3 4 5 6");
+        for form in [10, 12] {
+            assert_eq!(met(&format!("writeraw {form}")), "0 10 7 8");
+            assert_eq!(met(&format!("search {form}")), "0 12");
+            assert_eq!(met(&format!("listen {form}")), "- records");
+            assert_eq!(met(&format!("feed {form}")), "!11 !13 - record");
+        }
         for frame in FRAME_FORMS {
             assert_eq!(met(&format!("read {frame}")), "0 2 3 4 5 6");
             assert_eq!(met(&format!("writeraw {frame}")), "0 10 7 8 9");
         }
-        for wrong in NOT_THIS_FORM.into_iter().filter(|form| *form != 10) {
+        let serial = |form: &u32| SERIAL_FORMS.contains(form);
+        for wrong in NOT_THIS_FORM.into_iter().filter(|form| !serial(form)) {
             assert_eq!(met(&format!("search {wrong}")), "1");
             assert_eq!(met(&format!("listen {wrong}")), "1");
             assert_eq!(met(&format!("feed {wrong}")), "!11");

@@ -1,6 +1,6 @@
 //! A second, independent implementation of document 01 ("Time strings, the frame and the block")
-//! and of document 02, W-201 (the SAT string, form 10) and W-203 (the sign in the frame, forms 8
-//! and 11).
+//! and of document 02, W-201 (the SAT string, form 10), W-203 (the sign in the frame, forms 8 and
+//! 11) and W-204 (the RMC string, form 12, and the record's kinds that it brings).
 //!
 //! It was written from these papers and the manuals alone, to be compared with the verified
 //! library. It is meant to be read beside the papers, not to be fast.
@@ -11,19 +11,26 @@
 pub mod block;
 pub mod calendar;
 pub mod every_date;
+pub mod every_minute;
 pub mod every_offset;
 pub mod forms;
 pub mod frame;
 pub mod generate;
 pub mod listener;
+mod minutes;
 pub mod program;
 pub mod protocol;
 pub mod record;
+pub mod rmc;
 pub mod search;
 pub mod serial;
 
 #[cfg(test)]
 mod bench;
+#[cfg(test)]
+mod kinds;
+#[cfg(test)]
+mod rmc_strings;
 #[cfg(test)]
 mod sat;
 #[cfg(test)]

@@ -112,7 +112,7 @@ mod tests {
 
     #[test]
     fn a_wrong_form_answers_1_and_then_11() {
-        for form in [0, 8, 9, 11, 12, 15, 266, 267, u32::MAX] {
+        for form in [0, 8, 9, 11, 15, 266, 267, 268, u32::MAX] {
             let (refusal, listener) = Listener::start(form);
             assert_eq!(refusal, 1);
             assert_eq!((listener.form, listener.distance), (0, 0));

@@ -5,8 +5,8 @@ use std::io::{self, Read, Write};
 use crate::block::write_block;
 use crate::listener::{Heard, Listener};
 
-/// The form of the first line: "one byte `1`..`7`, LF". So form 10 cannot be asked for here, and no
-/// frame.
+/// The form of the first line: "one byte `1`..`7`, LF". So forms 10 and 12 cannot be asked for here,
+/// and no frame.
 fn form_of(head: &[u8]) -> Option<u32> {
     match head {
         [digit @ b'1'..=b'7', b'\n'] => Some(u32::from(digit - b'0')),
@@ -61,8 +61,11 @@ mod tests {
         for input in [&b""[..], b"1", b"8\n", b"0\n", b"1x", b"11\n", b"\n"] {
             assert_eq!(printed(input), "refused=1\n");
         }
-        // Forms 10 and 11 have two digits; the byte behind `9` is no digit.
+        // Forms 10, 11 and 12 have two digits; the bytes behind `9` are none.
         for input in [&b"10\n"[..], b"10", b":\n", b"A\n", b"\n\n"] {
+            assert_eq!(printed(input), "refused=1\n");
+        }
+        for input in [&b"12\n"[..], b"12", b"<\n", b"C\n", b"\x0c\n"] {
             assert_eq!(printed(input), "refused=1\n");
         }
         assert_eq!(printed(b"7\n"), "end bytes=0 telegrams=0\n");

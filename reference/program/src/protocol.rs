@@ -60,6 +60,7 @@ fn parse_date(text: &str) -> Option<Date> {
 
 fn parse_fraction(text: &str) -> Option<Fraction> {
     match text.split_once(':')? {
+        ("2", number) => Some(Fraction::Hundredths(parse_number(number)?)),
         ("3", number) => Some(Fraction::Thousandths(parse_number(number)?)),
         ("7", number) => Some(Fraction::TenMillionths(parse_number(number)?)),
         _ => None,
@@ -76,14 +77,18 @@ fn parse_flag(text: &str) -> Option<bool> {
 
 fn parse_position(text: &str) -> Option<Position> {
     let parts: Vec<&str> = text.split(':').collect();
-    let [latitude, longitude, altitude] = parts[..] else {
-        return None;
-    };
-    Some(Position {
-        latitude: parse_number(latitude)?,
-        longitude: parse_number(longitude)?,
-        altitude: parse_number(altitude)?,
-    })
+    match parts[..] {
+        ["min", latitude, longitude] => Some(Position::Minutes {
+            latitude: parse_number(latitude)?,
+            longitude: parse_number(longitude)?,
+        }),
+        [latitude, longitude, altitude] => Some(Position::Degrees {
+            latitude: parse_number(latitude)?,
+            longitude: parse_number(longitude)?,
+            altitude: parse_number(altitude)?,
+        }),
+        _ => None,
+    }
 }
 
 /// A record from the comma list of a `writeraw` request.
@@ -120,25 +125,42 @@ fn or_absent<T>(field: Option<T>, spell: impl Fn(T) -> String) -> String {
     field.map_or("-".to_string(), spell)
 }
 
+fn spell_date(date: Date) -> String {
+    match date {
+        Date::Full { year, month, day } => format!("full:{year}:{month}:{day}"),
+        Date::DayOfYear(day) => format!("day:{day}"),
+    }
+}
+
+fn spell_fraction(fraction: Fraction) -> String {
+    match fraction {
+        Fraction::Hundredths(number) => format!("2:{number}"),
+        Fraction::Thousandths(number) => format!("3:{number}"),
+        Fraction::TenMillionths(number) => format!("7:{number}"),
+    }
+}
+
+fn spell_position(position: Position) -> String {
+    match position {
+        Position::Degrees {
+            latitude,
+            longitude,
+            altitude,
+        } => format!("{latitude}:{longitude}:{altitude}"),
+        Position::Minutes {
+            latitude,
+            longitude,
+        } => format!("min:{latitude}:{longitude}"),
+    }
+}
+
 /// The comma list of a record, good or bad.
 pub fn spell_fields(record: &Record) -> String {
     let flag = |field: Option<bool>| or_absent(field, |yes| u32::from(yes).to_string());
-    let date = or_absent(record.date, |date| match date {
-        Date::Full { year, month, day } => format!("full:{year}:{month}:{day}"),
-        Date::DayOfYear(day) => format!("day:{day}"),
-    });
-    let fraction = or_absent(record.fraction, |fraction| match fraction {
-        Fraction::Thousandths(number) => format!("3:{number}"),
-        Fraction::TenMillionths(number) => format!("7:{number}"),
-    });
-    let position = or_absent(record.position, |position| {
-        let (latitude, longitude) = (position.latitude, position.longitude);
-        format!("{latitude}:{longitude}:{}", position.altitude)
-    });
     [
-        date,
+        or_absent(record.date, spell_date),
         format!("{}:{}:{}", record.hour, record.minute, record.second),
-        fraction,
+        or_absent(record.fraction, spell_fraction),
         or_absent(record.channel, |channel| channel.to_string()),
         flag(record.sync),
         flag(record.fix),
@@ -147,7 +169,7 @@ pub fn spell_fields(record: &Record) -> String {
         flag(record.change),
         flag(record.leap),
         or_absent(record.offset, |offset| offset.to_string()),
-        position,
+        or_absent(record.position, spell_position),
         flag(record.dsp),
         flag(record.lsp),
     ]
@@ -267,6 +289,7 @@ mod tests {
         let racal = hex(b"XGU000229000000\r");
         assert!(answer(&format!("read 5 {racal}")).starts_with("0 646174653d30302d30322d32390a"));
         assert_eq!(answer("read 15 -"), "1");
+        assert_eq!(answer("read 12 -"), "2");
         assert_eq!(answer("read 11 -"), "2");
         assert_eq!(answer("read 10 -"), "2");
         assert_eq!(answer("read 5 -"), "2");
@@ -278,6 +301,7 @@ mod tests {
         assert_eq!(answer(&format!("writeraw 5 {fields} 2")), "10 0 5555");
         assert_eq!(answer(&format!("writeraw 6 {fields} 0")), "8 0 -");
         assert_eq!(answer(&format!("writeraw 11 {fields} 0")), "8 0 -");
+        assert_eq!(answer(&format!("writeraw 12 {fields} 0")), "8 0 -");
         assert_eq!(answer(&format!("writeraw 15 {fields} 0")), "1 0 -");
         assert_eq!(answer("search 11 0 02"), "1 0");
         assert!(answer(&format!("search 5 1 58{racal}")).starts_with("0 1 64617465"));
@@ -287,11 +311,14 @@ mod tests {
         assert_eq!(answer("listen 8 0000"), "1 1!11 2!11");
         assert_eq!(answer("listen 10 0000"), "-");
         assert_eq!(answer("listen 11 0000"), "1 1!11 2!11");
+        assert_eq!(answer("listen 12 0000"), "-");
         assert_eq!(answer("feed 5 16 - 58"), "- 5 16 58");
         assert_eq!(answer("feed 5 17 - 58"), "!11 5 17 -");
         assert_eq!(answer("feed 10 29 - 02"), "- 10 29 02");
         assert_eq!(answer("feed 10 30 - 02"), "!11 10 30 -");
         assert_eq!(answer("feed 11 99 02 00"), "!11 11 99 02");
+        assert_eq!(answer("feed 12 65 - 24"), "- 12 65 24");
+        assert_eq!(answer("feed 12 66 - 24"), "!11 12 66 -");
         assert_eq!(answer("reed 5 -"), "?");
     }
 
@@ -300,8 +327,14 @@ mod tests {
         for text in [
             "full:100:13:32,24:60:61,3:1000,2,0,1,-,0,1,-,-841,-900001:1800001:10000,1,0",
             "day:367,0:0:0,7:10000000,-,-,-,-,-,-,-,-,-,-,-",
+            "-,0:0:0,2:100,-,-,-,-,-,-,-,-,min:-540001:1080001,-,-",
+            "-,0:0:0,2:0,-,-,-,-,-,-,-,-,min:284100:48375,-,-",
         ] {
             assert_eq!(spell_fields(&parse_fields(text).unwrap()), text);
+        }
+        for position in ["284100:48375", "min:1:2:3", "min:1", "deg:1:2", "1:min:2"] {
+            let text = format!("-,0:0:0,-,-,-,-,-,-,-,-,-,{position},-,-");
+            assert_eq!(parse_fields(&text), None, "{position}");
         }
     }
 }

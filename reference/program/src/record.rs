@@ -14,19 +14,26 @@ pub enum Date {
     DayOfYear(u32),
 }
 
-/// A fraction of a second. The two kinds are never converted into each other.
+/// A fraction of a second. The three kinds are never converted into each other.
 #[derive(Clone, Copy, Debug, PartialEq, Eq)]
 pub enum Fraction {
+    /// Document 02, W-204.
+    Hundredths(u32),
     Thousandths(u32),
     TenMillionths(u32),
 }
 
-/// A place: ten-thousandths of a degree, north and east positive, and whole metres.
+/// A place, north and east positive. "Neither kind is turned into the other" (document 02, W-204).
 #[derive(Clone, Copy, Debug, PartialEq, Eq)]
-pub struct Position {
-    pub latitude: i32,
-    pub longitude: i32,
-    pub altitude: u32,
+pub enum Position {
+    /// Ten-thousandths of a degree, and whole metres.
+    Degrees {
+        latitude: i32,
+        longitude: i32,
+        altitude: u32,
+    },
+    /// Hundredths of a minute. This kind has no altitude, not even an absent one.
+    Minutes { latitude: i32, longitude: i32 },
 }
 
 /// The record. Its default is the empty record: time 00:00:00 and all else absent.
@@ -68,6 +75,7 @@ impl Date {
 impl Fraction {
     pub fn in_range(&self) -> bool {
         match *self {
+            Fraction::Hundredths(number) => number <= 99,
             Fraction::Thousandths(number) => number <= 999,
             Fraction::TenMillionths(number) => number <= 9_999_999,
         }
@@ -75,10 +83,26 @@ impl Fraction {
 }
 
 impl Position {
+    /// Both kinds reach to 90 degrees and to 180 degrees, in numbers of their own.
     pub fn in_range(&self) -> bool {
-        (-900_000..=900_000).contains(&self.latitude)
-            && (-1_800_000..=1_800_000).contains(&self.longitude)
-            && self.altitude <= 9_999
+        match *self {
+            Position::Degrees {
+                latitude,
+                longitude,
+                altitude,
+            } => {
+                (-900_000..=900_000).contains(&latitude)
+                    && (-1_800_000..=1_800_000).contains(&longitude)
+                    && altitude <= 9_999
+            }
+            Position::Minutes {
+                latitude,
+                longitude,
+            } => {
+                (-540_000..=540_000).contains(&latitude)
+                    && (-1_080_000..=1_080_000).contains(&longitude)
+            }
+        }
     }
 }
 
@@ -129,6 +153,46 @@ mod tests {
             };
             assert_eq!(record.is_bad(), bad);
         }
+    }
+
+    #[test]
+    fn each_kind_of_fraction_has_its_own_end() {
+        for (fraction, bad) in [
+            (Fraction::Hundredths(99), false),
+            (Fraction::Hundredths(100), true),
+            (Fraction::Thousandths(999), false),
+            (Fraction::Thousandths(1_000), true),
+            (Fraction::TenMillionths(9_999_999), false),
+            (Fraction::TenMillionths(10_000_000), true),
+        ] {
+            let record = Record {
+                fraction: Some(fraction),
+                ..Record::default()
+            };
+            assert_eq!(record.is_bad(), bad, "{fraction:?}");
+        }
+    }
+
+    #[test]
+    fn each_kind_of_position_has_its_own_ends() {
+        let degrees = |latitude, longitude, altitude| Position::Degrees {
+            latitude,
+            longitude,
+            altitude,
+        };
+        let minutes = |latitude, longitude| Position::Minutes {
+            latitude,
+            longitude,
+        };
+        for sign in [-1, 1] {
+            assert!(degrees(sign * 900_000, sign * 1_800_000, 9_999).in_range());
+            assert!(!degrees(sign * 900_001, 0, 0).in_range());
+            assert!(!degrees(0, sign * 1_800_001, 0).in_range());
+            assert!(minutes(sign * 540_000, sign * 1_080_000).in_range());
+            assert!(!minutes(sign * 540_001, 0).in_range());
+            assert!(!minutes(0, sign * 1_080_001).in_range());
+        }
+        assert!(!degrees(0, 0, 10_000).in_range());
     }
 
     #[test]

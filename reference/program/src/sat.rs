@@ -170,7 +170,7 @@ fn more_fields() -> Record {
         fix: Some(false),
         leap: Some(true),
         offset: Some(-345),
-        position: Some(Position {
+        position: Some(Position::Degrees {
             latitude: 1,
             longitude: -1,
             altitude: 1,

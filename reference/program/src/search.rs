@@ -4,7 +4,7 @@ use crate::forms::{read, serial_length};
 use crate::record::Record;
 
 /// The first place at or after `start` where a valid string lies wholly in the input, and its
-/// record; else 1 (form not 1..7 or 10) or else 12. A place counts from the input's first byte.
+/// record; else 1 (form not 1..7, 10 or 12) or else 12. A place counts from the input's first byte.
 pub fn search(form: u32, input: &[u8], start: usize) -> Result<(usize, Record), u32> {
     let length = serial_length(form).ok_or(1u32)?;
     let mut place = start;
@@ -42,7 +42,7 @@ mod tests {
 
     #[test]
     fn a_wrong_form_is_1_before_12() {
-        for form in [0, 8, 9, 11, 12, 15, 266, 267, u32::MAX] {
+        for form in [0, 8, 9, 11, 15, 266, 267, 268, u32::MAX] {
             assert_eq!(search(form, RACAL, 99), Err(1));
         }
     }

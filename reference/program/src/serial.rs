@@ -1,6 +1,6 @@
-//! The eight serial strings, forms 1 to 7 and 10. Every reader here gets an input of the right
-//! length and makes its passes in the order 3 (spelling), 6 (sum), 4 (ranges), 5 (disagreement).
-//! Every writer here gets a record that has passed the tests 7, 8 and 9.
+//! The serial strings of forms 1 to 7 and 10; that of form 12 stands in `rmc`. Every reader gets an
+//! input of the right length and makes its passes in the order 3 (spelling), 6 (sum), 4 (ranges),
+//! 5 (disagreement). Every writer gets a record that has passed the tests 7, 8 and 9.
 
 use crate::calendar;
 use crate::record::{
@@ -40,7 +40,7 @@ pub(crate) fn number(digits: &[u8]) -> u32 {
 }
 
 /// Hour, minute and second that stand at three places, two digits each.
-fn time_at(s: &[u8], hour: usize, minute: usize, second: usize) -> (u32, u32, u32) {
+pub(crate) fn time_at(s: &[u8], hour: usize, minute: usize, second: usize) -> (u32, u32, u32) {
     (
         number(&s[hour..hour + 2]),
         number(&s[minute..minute + 2]),
@@ -49,7 +49,7 @@ fn time_at(s: &[u8], hour: usize, minute: usize, second: usize) -> (u32, u32, u3
 }
 
 /// Year, month and day that stand at three places, two digits each.
-fn date_at(s: &[u8], year: usize, month: usize, day: usize) -> (u32, u32, u32) {
+pub(crate) fn date_at(s: &[u8], year: usize, month: usize, day: usize) -> (u32, u32, u32) {
     (
         number(&s[year..year + 2]),
         number(&s[month..month + 2]),
@@ -58,13 +58,13 @@ fn date_at(s: &[u8], year: usize, month: usize, day: usize) -> (u32, u32, u32) {
 }
 
 /// Refusal 4 for a time or a full date out of range.
-fn check_ranges(date: (u32, u32, u32), time: (u32, u32, u32)) -> Result<(), u32> {
+pub(crate) fn check_ranges(date: (u32, u32, u32), time: (u32, u32, u32)) -> Result<(), u32> {
     require(calendar::date_exists(date.0, date.1, date.2), 4)?;
     require(time_in_range(time.0, time.1, time.2), 4)
 }
 
 /// A record with a full date and a time, all else absent.
-fn record_of(date: (u32, u32, u32), time: (u32, u32, u32)) -> Record {
+pub(crate) fn record_of(date: (u32, u32, u32), time: (u32, u32, u32)) -> Record {
     Record {
         date: Some(Date::Full {
             year: date.0,
@@ -158,7 +158,7 @@ pub fn read_erlangen(s: &[u8]) -> Result<Record, u32> {
     let latitude = (number(&s[40..43]) * 10_000 + number(&s[44..48])) as i32;
     let longitude = (number(&s[50..53]) * 10_000 + number(&s[54..58])) as i32;
     let altitude = number(&s[60..64]);
-    let unsigned = Position {
+    let unsigned = Position::Degrees {
         latitude,
         longitude,
         altitude,
@@ -181,7 +181,7 @@ pub fn read_erlangen(s: &[u8]) -> Result<Record, u32> {
         summer: Some(d == b'S'),
         change: Some(f == b'!'),
         leap: Some(g == b'A'),
-        position: Some(Position {
+        position: Some(Position::Degrees {
             latitude: if north_or_south == b'S' {
                 -latitude
             } else {
@@ -198,23 +198,31 @@ pub fn read_erlangen(s: &[u8]) -> Result<Record, u32> {
     })
 }
 
+/// The sum of the strings that have one.
+pub(crate) fn exclusive_or(bytes: &[u8]) -> u8 {
+    bytes.iter().fold(0, |sum, byte| sum ^ byte)
+}
+
+/// "Two digits 0-9, A-F": small letters are none.
+pub(crate) fn is_sum_digit(byte: u8) -> bool {
+    byte.is_ascii_digit() || (b'A'..=b'F').contains(&byte)
+}
+
+pub(crate) fn spell_sum(sum: u8) -> String {
+    format!("{sum:02X}")
+}
+
 /// The exclusive-or of the 29 bytes before the sum, the last colon among them.
 pub fn spa_sum(s: &[u8]) -> u8 {
-    let mut sum = 0;
-    for byte in &s[0..29] {
-        sum ^= byte;
-    }
-    sum
+    exclusive_or(&s[0..29])
 }
 
 /// Form 4: `>900WD:yy-mm-dd hh.mm;ss.fff:cc<CR>`.
 pub fn read_spa(s: &[u8]) -> Result<Record, u32> {
     require(spelled(s, b">900WD:##-##-## ##.##;##.###:~~\r"), 3)?;
-    let is_sum_digit = |byte: u8| byte.is_ascii_digit() || (b'A'..=b'F').contains(&byte);
     require(is_sum_digit(s[29]) && is_sum_digit(s[30]), 3)?;
 
-    let written = format!("{:02X}", spa_sum(s));
-    require(written.as_bytes() == &s[29..31], 6)?;
+    require(spell_sum(spa_sum(s)).as_bytes() == &s[29..31], 6)?;
 
     let date = date_at(s, 7, 10, 13);
     let time = time_at(s, 16, 19, 22);
@@ -382,6 +390,18 @@ pub fn write_capture(record: &Record) -> Vec<u8> {
         .into_bytes()
 }
 
+/// Latitude, longitude and altitude of a record that has them in degrees and metres.
+fn degrees_position(record: &Record) -> (i32, i32, u32) {
+    match record.position {
+        Some(Position::Degrees {
+            latitude,
+            longitude,
+            altitude,
+        }) => (latitude, longitude, altitude),
+        _ => unreachable!("test 8 has been passed"),
+    }
+}
+
 /// `bbb.bbbb` or `lll.llll`: leading zeros as spaces, the digit before the point stays.
 fn degrees(value: i32) -> String {
     let value = value.unsigned_abs();
@@ -401,12 +421,10 @@ pub fn write_erlangen(record: &Record) -> Vec<u8> {
     let f = letter(record.change, '!');
     let g = letter(record.leap, 'A');
     let i = if second == 60 { 'L' } else { ' ' };
-    let position = record.position.expect("test 8 has been passed");
-    let latitude = degrees(position.latitude);
-    let longitude = degrees(position.longitude);
-    let n = if position.latitude < 0 { 'S' } else { 'N' };
-    let e = if position.longitude < 0 { 'W' } else { 'E' };
-    let altitude = position.altitude;
+    let (latitude, longitude, altitude) = degrees_position(record);
+    let n = if latitude < 0 { 'S' } else { 'N' };
+    let e = if longitude < 0 { 'W' } else { 'E' };
+    let (latitude, longitude) = (degrees(latitude), degrees(longitude));
     format!(
         "\x02{dd:02}.{mm:02}.{yy:02}; {w}; {hour:02}:{minute:02}:{second:02}; \
          {v}{oh:02}:{om:02}; {a}{c}{d}{f}{g} {i};{latitude}{n} {longitude}{e} {altitude:4}m\x03"
@@ -423,8 +441,8 @@ pub fn write_spa(record: &Record) -> Vec<u8> {
     };
     let mut text =
         format!(">900WD:{yy:02}-{mm:02}-{dd:02} {hour:02}.{minute:02};{second:02}.{fraction:03}:");
-    let sum = spa_sum(text.as_bytes());
-    text.push_str(&format!("{sum:02X}\r"));
+    let sum = spell_sum(spa_sum(text.as_bytes()));
+    text.push_str(&format!("{sum}\r"));
     text.into_bytes()
 }
 

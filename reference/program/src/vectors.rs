@@ -38,12 +38,12 @@ fn answered(form: &str, input: &str) -> (u32, Vec<u8>) {
             write(form.parse().unwrap(), &record, &mut buffer)
         }
     };
+    // A refused write changes no byte, and one that succeeds leaves those behind its output.
+    let untouched = &buffer[answer.unwrap_or(0)..];
+    assert!(untouched.iter().all(|byte| *byte == FILLING));
     match answer {
         Ok(length) => (0, buffer[..length].to_vec()),
-        Err(refusal) => {
-            assert!(buffer.iter().all(|byte| *byte == FILLING));
-            (refusal, b"-".to_vec())
-        }
+        Err(refusal) => (refusal, b"-".to_vec()),
     }
 }
 
@@ -72,7 +72,7 @@ fn the_bench() {
 
 #[test]
 fn the_manuals() {
-    assert_eq!(check("manuals.txt"), 19);
+    assert_eq!(check("manuals.txt"), 20);
 }
 
 #[test]
@@ -83,6 +83,11 @@ fn strings_from_outside() {
 #[test]
 fn sat_strings() {
     assert_eq!(check("sat.txt"), 106);
+}
+
+#[test]
+fn rmc_strings() {
+    assert_eq!(check("rmc.txt"), 120);
 }
 
 #[test]

@@ -99,4 +99,8 @@ fn a_fraction_is_its_digits() {
         .fraction;
     assert_eq!(capture.map(|f| (f.value(), f.digits())), Some((431, 7)));
     assert_eq!(capture, Some(Fraction::TenMillionths(431)));
+    let string = b"$GPRMC,235960.99,V,0000.01,S,00000.01,W,0.0,0.0,290224,0.0,E*44\r\n";
+    let rmc = read(Form::RMC, string).unwrap().fraction;
+    assert_eq!(rmc.map(|f| (f.value(), f.digits())), Some((99, 2)));
+    assert_eq!(rmc, Some(Fraction::Hundredths(99)));
 }

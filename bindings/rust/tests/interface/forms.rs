@@ -3,7 +3,7 @@ use lindenscoop::{
     Refusal,
 };
 
-const NAMES: [&str; 11] = [
+const NAMES: [&str; 12] = [
     "standard",
     "capture",
     "erlangen",
@@ -15,13 +15,28 @@ const NAMES: [&str; 11] = [
     "block",
     "sat",
     "c37118",
+    "rmc",
 ];
 
-/// A record that every form can say.
-fn whole() -> Record {
+/// A record that the form can say: fraction and position are of its kind, where it carries them.
+fn whole(form: Form) -> Record {
+    let degrees = Position::Degrees {
+        latitude: 1,
+        longitude: 1,
+        altitude: 1,
+    };
+    let minutes = Position::Minutes {
+        latitude: 1,
+        longitude: 1,
+    };
+    let (fraction, position) = match form {
+        Form::SPA => (Fraction::Thousandths(1), degrees),
+        Form::RMC => (Fraction::Hundredths(1), minutes),
+        _ => (Fraction::TenMillionths(1), degrees),
+    };
     Record {
         date: Date::of_full_year(2024, 1, 1),
-        fraction: None,
+        fraction: Some(fraction),
         channel: Some(0),
         sync: Some(true),
         fix: Some(true),
@@ -30,11 +45,7 @@ fn whole() -> Record {
         change: Some(false),
         leap: Some(false),
         offset: Some(0),
-        position: Some(Position {
-            latitude: 1,
-            longitude: 1,
-            altitude: 1,
-        }),
+        position: Some(position),
         dsp: Some(false),
         lsp: Some(false),
         ..Record::default()
@@ -71,6 +82,7 @@ fn the_constants_have_their_names() {
         Form::BLOCK,
         Form::SAT,
         Form::C37118,
+        Form::RMC,
     ];
     assert_eq!(constants.map(|form| form.name()), NAMES.map(Some));
 }
@@ -83,6 +95,7 @@ fn other_words_and_numbers_are_no_forms() {
         "15",
         "05",
         "010",
+        "012",
         "+5",
         " 5",
         "5 ",
@@ -92,13 +105,14 @@ fn other_words_and_numbers_are_no_forms() {
         "RACAL1",
         "SAT ",
         "C37.118",
+        "GPRMC",
     ] {
         let error = word.parse::<Form>().unwrap_err().to_string();
         assert!(
             error.starts_with(&format!("there is no form {word:?}; ")),
             "{error}"
         );
-        assert!(error.ends_with("standard (1), capture (2), erlangen (3), spa (4), racal (5), sysplex (6), computime (7), frame (8), block (9), sat (10), c37118 (11)"), "{error}");
+        assert!(error.ends_with("standard (1), capture (2), erlangen (3), spa (4), racal (5), sysplex (6), computime (7), frame (8), block (9), sat (10), c37118 (11), rmc (12)"), "{error}");
     }
     for number in [0, 15, 77, u32::MAX] {
         assert_eq!(Form::try_from(number), Err(Refusal::UnknownForm));
@@ -119,16 +133,8 @@ fn the_library_knows_the_same_forms() {
 #[test]
 fn lengths_are_those_that_the_library_writes() {
     for form in Form::ALL {
-        let fraction = match *form {
-            Form::SPA => Fraction::Thousandths(1),
-            _ => Fraction::TenMillionths(1),
-        };
-        let record = Record {
-            fraction: Some(fraction),
-            ..whole()
-        };
         let mut out = Vec::new();
-        let written = append(*form, &record, &mut out).unwrap();
+        let written = append(*form, &whole(*form), &mut out).unwrap();
         if *form == Form::BLOCK {
             assert!(written <= 174 && form.length() == Some(174));
         } else {
@@ -141,7 +147,7 @@ fn lengths_are_those_that_the_library_writes() {
 fn a_form_that_is_not_serial_is_refused_wherever_one_is_searched_or_listened_for() {
     let refused = Some(Refusal::UnknownForm);
     let bytes = b"XGU000229000000\r";
-    for number in [0, 8, 9, 11, 15, 16, 26, 77, 256, 261, 266, u32::MAX] {
+    for number in [0, 8, 9, 11, 15, 16, 26, 77, 256, 261, 266, 268, u32::MAX] {
         let form = Form(number);
         assert!(!form.is_serial());
         assert_eq!(search(form, bytes, 0).err(), refused);
@@ -153,6 +159,6 @@ fn a_form_that_is_not_serial_is_refused_wherever_one_is_searched_or_listened_for
     let serial = Form::ALL.iter().filter(|form| form.is_serial());
     assert_eq!(
         serial.map(|form| form.0).collect::<Vec<_>>(),
-        [1, 2, 3, 4, 5, 6, 7, 10]
+        [1, 2, 3, 4, 5, 6, 7, 10, 12]
     );
 }

@@ -1,10 +1,12 @@
-//! What programs rest on beside the library's own answers: forms by name, places in a stream, refusals as errors, stored states, vectors, years, days.
+//! What programs rest on beside the library's own answers: forms by name, places in a stream, refusals as errors, stored states, vectors, years, days, the kinds of a field.
 
 mod dates;
 mod forms;
 mod frames;
+mod kinds;
 mod places;
 mod refusals;
+mod rmc;
 mod sat;
 mod states;
 mod writing;

@@ -32,6 +32,7 @@ fn record(form: Form, second: u32) -> Record {
         fraction: match form {
             Form::SPA => Some(Fraction::Thousandths(7)),
             Form::CAPTURE => Some(Fraction::TenMillionths(7)),
+            Form::RMC => Some(Fraction::Hundredths(7)),
             _ => None,
         },
         channel: (form == Form::CAPTURE).then_some(1),
@@ -44,19 +45,27 @@ fn carried(form: Form, second: u32) -> Record {
     let is = |forms: &[Form]| forms.contains(&form);
     let both = is(&[Form::STANDARD, Form::ERLANGEN]);
     let sat = is(&[Form::SAT]);
+    let position = match form {
+        Form::ERLANGEN => Some(Position::Degrees {
+            latitude: -473500,
+            longitude: 80625,
+            altitude: 431,
+        }),
+        Form::RMC => Some(Position::Minutes {
+            latitude: -284100,
+            longitude: 48375,
+        }),
+        _ => None,
+    };
     Record {
-        sync: (both || sat || is(&[Form::SYSPLEX])).then_some(false),
+        sync: (both || sat || is(&[Form::SYSPLEX, Form::RMC])).then_some(false),
         fix: both.then_some(true),
         utc: (sat || is(&[Form::STANDARD])).then_some(false),
         summer: (both || sat).then_some(true),
         change: (both || sat).then_some(true),
         leap: both.then_some(false),
         offset: is(&[Form::ERLANGEN]).then_some(-210),
-        position: is(&[Form::ERLANGEN]).then_some(Position {
-            latitude: -473500,
-            longitude: 80625,
-            altitude: 431,
-        }),
+        position,
         ..record(form, second)
     }
 }
@@ -67,7 +76,7 @@ fn stream(form: Form) -> (Vec<u8>, Vec<Found>) {
     for second in 0..60 {
         let record = carried(form, second);
         let noise = [0, 0, 1, 5, 17, 300][second as usize % 6];
-        bytes.resize(bytes.len() + noise, b"X\x02.>\x01T"[second as usize % 6]);
+        bytes.resize(bytes.len() + noise, b"X\x02.>\x01T$"[second as usize % 7]);
         strings.push(Found {
             place: bytes.len(),
             record,

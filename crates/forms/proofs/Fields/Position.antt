@@ -1,5 +1,6 @@
--- The position: two signed numbers, each by its degrees, the part behind the point and a letter, and the altitude.
-use Rattle.cond.proofs.Kit.{_%_, _*_, _+_, _/_, _<_, _∙_, _≡_, _≤_, ap, arith, Bool, digits-div, digits-mod, false, false≢true, leb, leb-true, natAbs, refl, true, ℕ}
+-- The position: two signed numbers, each by its degrees, what stands behind them and a letter, and in degrees the altitude.
+use Rattle.cond.proofs.Kit.{_%_, _*_, _+_, _/_, _<_, _∙_, _≡_, _≤_, ap, arith, Bool, digits-div, digits-mod, false, false≢true, leb, leb-true, lt-ltb, ltb, ltb-true, natAbs, refl, true, ℕ, ℤ}
+use Rattle.cond.specs.Pick.{pick}
 use Rattle.cond.proofs.Tests.{both, both-hold}
 use Rattle.record.specs.Record.{positionInRange}
 use Rattle.record.specs.Sign.{isNegative, signed}
@@ -7,11 +8,13 @@ use Rattle.record.specs.declared.Position.{Position}
 use Rattle.record.specs.declared.Position.the-variants as positionIs
 use Rattle.record.specs.declared.Record.{Record}
 use Rattle.record.proofs.Signs.{natAbs-signed}
-use Rattle.forms.specs.Fields.Position.{encodeAltitude, hasPosition, carriedPosition, decodeLatitude, latitudeOf, encodeLatitude, decodeLongitude, longitudeOf}
-use Rattle.forms.specs.Fields.Position.{encodeLongitude, decodePosition, positionSlots, positionConsistent, encodeSouth, encodeWest}
+use Rattle.forms.specs.Fields.Position.{PositionKind, arcInRange, carriedPosition, decodeLatitude, decodeLongitude, decodePosition, degrees, encodeAltitude, encodeLatitude}
+use Rattle.forms.specs.Fields.Position.{encodeLongitude, encodeSouth, encodeWest, hasPosition, inHundredths, latitudeOf, longitudeOf, minutes, noPosition}
+use Rattle.forms.specs.Fields.Position.{positionConsistent, positionKind, positionSlots, signedLatitude, signedLongitude}
 use Rattle.forms.specs.Fields.Sign.{negative, signConsistent}
 use Rattle.forms.specs.Places.{Layout, has}
-use Rattle.forms.specs.Slots.{Slot, Values, altitude, among, latitudeDegrees, latitudePart, longitudeDegrees, longitudePart, south, west}
+use Rattle.forms.specs.Slots.{Slot, Values, altitude, among, latitudeDegrees, latitudeHundredth, latitudeMinute, latitudePart, latitudeWhole}
+use Rattle.forms.specs.Slots.{longitudeDegrees, longitudeHundredth, longitudeMinute, longitudePart, longitudeWhole, south, west}
 use Rattle.forms.specs.Encode.{encode}
 use Rattle.forms.proofs.Agrees.{agrees}
 use Rattle.forms.proofs.Fields.Flag.{one-lt}
@@ -19,28 +22,48 @@ use Rattle.forms.proofs.Fields.Sign.{plus-consistent, sign-encoded, sig
 use Rattle.forms.proofs.Limits.{bound, most}
 use Rattle.forms.proofs.Slots.{Each, _and_, none, ofPosition}
 
--- a layout has the slots of a position, or none of them
+-- a layout has the slots of its kind of position and no other
 abbrev pub positionWhole : Layout → Bool
-positionWhole ps = agrees ofPosition (positionSlots (has ps south)) (has ps)
+positionWhole ps = agrees ofPosition (positionSlots (positionKind ps)) (has ps)
 
 -- decoded and encoded again
-pub position-encoded : (k : Bool) (v : Values) (r : Record) → r .position ≡ decodePosition k v → positionConsistent v ≡ true
+
+-- degrees, minutes and hundredths of a number of hundredths
+abbrev Arc : ℕ → ℕ → ℕ → ℕ → Type 0
+Arc n d m h = (n / 6000 ≡ d) × (n % 6000 / 100 ≡ m) × (n % 100 ≡ h)
+
+arc-encoded : (n d m h : ℕ) → n ≡ inHundredths d m h → m < 60 → h < 100 → Arc n d m h
+arc-encoded n d m h e p q = omega arith
+
+pub position-encoded : (k : PositionKind) (v : Values) (r : Record) → r .position ≡ decodePosition k v → arcInRange v ≡ true → positionConsistent k v ≡ true
     → ((f : Slot) → among f ofPosition ≡ true → among f (positionSlots k) ≡ true → v f < most f) → Each (λ (f : Slot). encode r f ≡ v f) (positionSlots k)
 unfolding decodePosition most
-position-encoded false v r e t l = none
-position-encoded true v r e t l =
-    let s = both (signConsistent (v south) (decodeLatitude v)) (signConsistent (v west) (decodeLongitude v)) t in
-    let lat = ap encodeLatitude e ∙ natAbs-signed (negative (v south)) (decodeLatitude v) in
-    let lon = ap encodeLongitude e ∙ natAbs-signed (negative (v west)) (decodeLongitude v) in
+position-encoded noPosition v r e a t l = none
+position-encoded degrees v r e a t l =
+    let s = both (signConsistent (v south) (decodeLatitude degrees v)) (signConsistent (v west) (decodeLongitude degrees v)) t in
+    let y = ap (encodeLatitude degrees) e ∙ natAbs-signed (negative (v south)) (decodeLatitude degrees v) in
+    let x = ap (encodeLongitude degrees) e ∙ natAbs-signed (negative (v west)) (decodeLongitude degrees v) in
     let lp = l latitudePart refl refl in
     let mp = l longitudePart refl refl in
-    (ap encodeSouth e ∙ sign-encoded (v south) (decodeLatitude v) (s .0) (l south refl refl))
-    and (ap (λ (x : ℕ). x / 10000) lat ∙ digits-div (v latitudeDegrees) lp)
-    and (ap (λ (x : ℕ). x % 10000) lat ∙ digits-mod (v latitudeDegrees) lp)
-    and (ap encodeWest e ∙ sign-encoded (v west) (decodeLongitude v) (s .1) (l west refl refl))
-    and (ap (λ (x : ℕ). x / 10000) lon ∙ digits-div (v longitudeDegrees) mp)
-    and (ap (λ (x : ℕ). x % 10000) lon ∙ digits-mod (v longitudeDegrees) mp)
+    (ap encodeSouth e ∙ sign-encoded (v south) (decodeLatitude degrees v) (s .0) (l south refl refl))
+    and (ap (λ (n : ℕ). n / 10000) y ∙ digits-div (v latitudeDegrees) lp)
+    and (ap (λ (n : ℕ). n % 10000) y ∙ digits-mod (v latitudeDegrees) lp)
+    and (ap encodeWest e ∙ sign-encoded (v west) (decodeLongitude degrees v) (s .1) (l west refl refl))
+    and (ap (λ (n : ℕ). n / 10000) x ∙ digits-div (v longitudeDegrees) mp)
+    and (ap (λ (n : ℕ). n % 10000) x ∙ digits-mod (v longitudeDegrees) mp)
     and (ap encodeAltitude e)
+    and none
+position-encoded minutes v r e a t l =
+    let s = both (signConsistent (v south) (decodeLatitude minutes v)) (signConsistent (v west) (decodeLongitude minutes v)) t in
+    let y = ap (encodeLatitude minutes) e ∙ natAbs-signed (negative (v south)) (decodeLatitude minutes v) in
+    let x = ap (encodeLongitude minutes) e ∙ natAbs-signed (negative (v west)) (decodeLongitude minutes v) in
+    let m = both (ltb (v latitudeMinute) 60) (ltb (v longitudeMinute) 60) a in
+    let lat = arc-encoded _ _ _ _ y (ltb-true (v latitudeMinute) 60 (m .0)) (l latitudeHundredth refl refl) in
+    let lon = arc-encoded _ _ _ _ x (ltb-true (v longitudeMinute) 60 (m .1)) (l longitudeHundredth refl refl) in
+    (ap encodeSouth e ∙ sign-encoded (v south) (decodeLatitude minutes v) (s .0) (l south refl refl))
+    and lat .0 and lat .1 and lat .2
+    and (ap encodeWest e ∙ sign-encoded (v west) (decodeLongitude minutes v) (s .1) (l west refl refl))
+    and lon .0 and lon .1 and lon .2
     and none
 
 -- encoded and decoded again
@@ -48,68 +71,140 @@ position-encoded true v r e t l =
 degrees-decoded : (n a b : ℕ) → a ≡ n / 10000 → b ≡ n % 10000 → a * 10000 + b ≡ n
 degrees-decoded n a b p q = omega arith
 
-position-again : (x : Position) (s n t m a : ℕ) → hasPosition true x ≡ true → s ≡ encodeSouth x → n ≡ encodeLatitude x → t ≡ encodeWest x → m ≡ encodeLongitude x
-    → a ≡ encodeAltitude x → positionIs.Degrees (signed (negative s) n) (signed (negative t) m) a ≡ x
-position-again positionIs.Absent s n t m a h c d e f g = absurd (false≢true h)
-position-again (positionIs.Degrees lat lon alt) s n t m a h c d e f g =
-    let p = signed-decoded lat s n c d in
-    let q = signed-decoded lon t m e f in
-    cc
+arc-decoded : (n d m h : ℕ) → d ≡ n / 6000 → m ≡ n % 6000 / 100 → h ≡ n % 100 → inHundredths d m h ≡ n
+arc-decoded n d m h p q e = omega arith
+
+degrees-again : (x : Position) (a b : ℤ) (c : ℕ) → hasPosition degrees x ≡ true → a ≡ latitudeOf x → b ≡ longitudeOf x → c ≡ encodeAltitude x → positionIs.Degrees a b c ≡ x
+degrees-again positionIs.Absent a b c h p q s = absurd (false≢true h)
+degrees-again (positionIs.Degrees lat lon alt) a b c h p q s = rw (p, q, s) refl
+degrees-again (positionIs.Minutes lat lon) a b c h p q s = absurd (false≢true h)
+
+minutes-again : (x : Position) (a b : ℤ) → hasPosition minutes x ≡ true → a ≡ latitudeOf x → b ≡ longitudeOf x → positionIs.Minutes a b ≡ x
+minutes-again positionIs.Absent a b h p q = absurd (false≢true h)
+minutes-again (positionIs.Degrees lat lon alt) a b h p q = absurd (false≢true h)
+minutes-again (positionIs.Minutes lat lon) a b h p q = rw (p, q) refl
 
 module _ (r : Record) (v : Values) where
   -- what the values of the record's own position are
-  abbrev pub Positions : Bool → Type 0
+  abbrev pub Positions : PositionKind → Type 0
   Positions k = (f : Slot) → among f ofPosition ≡ true → among f (positionSlots k) ≡ true → v f ≡ encode r f
 
-  magnitudes : Positions true → (decodeLatitude v ≡ encodeLatitude (r .position)) × (decodeLongitude v ≡ encodeLongitude (r .position))
-  magnitudes e = (
-    degrees-decoded (encodeLatitude (r .position)) _ _ (e latitudeDegrees refl refl) (e latitudePart refl refl),
-    degrees-decoded (encodeLongitude (r .position)) _ _ (e longitudeDegrees refl refl) (e longitudePart refl refl),
-  )
+  -- the numbers and signs of a position of its kind
+  record Told (k : PositionKind) : Type 0 where
+    pub latitude : decodeLatitude k v ≡ natAbs (latitudeOf (r .position))
+    pub longitude : decodeLongitude k v ≡ natAbs (longitudeOf (r .position))
+    pub southern : v south ≡ encodeSouth (r .position)
+    pub western : v west ≡ encodeWest (r .position)
 
-  pub position-decoded : (k : Bool) → hasPosition k (r .position) ≡ true → Positions k → decodePosition k v ≡ carriedPosition k (r .position)
+  told-degrees : hasPosition degrees (r .position) ≡ true → Positions degrees → Told degrees
+  told-degrees h e =
+      record {
+        latitude = simp h at (degrees-decoded (encodeLatitude degrees (r .position)) _ _ (e latitudeDegrees refl refl) (e latitudePart refl refl));
+        longitude = simp h at (degrees-decoded (encodeLongitude degrees (r .position)) _ _ (e longitudeDegrees refl refl) (e longitudePart refl refl));
+        southern = e south refl refl;
+        western = e west refl refl;
+      }
+
+  told-minutes : hasPosition minutes (r .position) ≡ true → Positions minutes → Told minutes
+  told-minutes h e =
+      record {
+        latitude = simp h at (arc-decoded (encodeLatitude minutes (r .position)) _ _ _ (e latitudeWhole refl refl) (e latitudeMinute refl refl) (e latitudeHundredth refl refl));
+        longitude = simp h at (arc-decoded (encodeLongitude minutes (r .position)) _ _ _ (e longitudeWhole refl refl) (e longitudeMinute refl refl) (e longitudeHundredth refl refl));
+        southern = e south refl refl;
+        western = e west refl refl;
+      }
+
+  told-signed : (k : PositionKind) → Told k → (signedLatitude k v ≡ latitudeOf (r .position)) × (signedLongitude k v ≡ longitudeOf (r .position))
+  told-signed k t = (signed-decoded (latitudeOf (r .position)) _ _ (t .southern) (t .latitude), signed-decoded (longitudeOf (r .position)) _ _ (t .western) (t .longitude))
+
+  pub position-decoded : (k : PositionKind) → hasPosition k (r .position) ≡ true → Positions k → decodePosition k v ≡ carriedPosition k (r .position)
   unfolding decodePosition carriedPosition
-  position-decoded false h e = refl
-  position-decoded true h e =
-      let m = magnitudes e in
-      position-again (r .position) _ _ _ _ _ h (e south refl refl) (m .0) (e west refl refl) (m .1) (e altitude refl refl)
+  position-decoded noPosition h e = refl
+  position-decoded degrees h e =
+      let t = told-signed degrees (told-degrees h e) in
+      degrees-again (r .position) _ _ _ h (t .0) (t .1) (e altitude refl refl)
+  position-decoded minutes h e =
+      let t = told-signed minutes (told-minutes h e) in
+      minutes-again (r .position) _ _ h (t .0) (t .1)
 
   -- its signs agree
-  pub position-consistent : (k : Bool) → Positions k → ((f : Slot) → among f ofPosition ≡ true → among f (positionSlots k) ≡ false → v f ≡ 0) → positionConsistent v ≡ true
-  position-consistent false e z = both-hold _ _ (plus-consistent (v south) _ (z south refl refl)) (plus-consistent (v west) _ (z west refl refl))
-  position-consistent true e z =
-      let m = magnitudes e in
-      both-hold _ _ (signs-consistent (latitudeOf (r .position)) _ _ (e south refl refl) (m .0)) (signs-consistent (longitudeOf (r .position)) _ _ (e west refl refl) (m .1))
+
+  told-consistent : (k : PositionKind) → Told k → positionConsistent k v ≡ true
+  told-consistent k t =
+      both-hold _ _ (signs-consistent (latitudeOf (r .position)) _ _ (t .southern) (t .latitude)) (signs-consistent (longitudeOf (r .position)) _ _ (t .western) (t .longitude))
+
+  pub position-consistent : (k : PositionKind) → hasPosition k (r .position) ≡ true → Positions k
+      → ((f : Slot) → among f ofPosition ≡ true → among f (positionSlots k) ≡ false → v f ≡ 0) → positionConsistent k v ≡ true
+  position-consistent noPosition h e z = both-hold _ _ (plus-consistent (v south) _ (z south refl refl)) (plus-consistent (v west) _ (z west refl refl))
+  position-consistent degrees h e z = told-consistent degrees (told-degrees h e)
+  position-consistent minutes h e z = told-consistent minutes (told-minutes h e)
+
+-- a record tells fewer than 60 minutes
+pub arc-lt : (b : Bool) (n x : ℕ) → n ≡ pick b (x % 6000 / 100) 0 → n < 60
+arc-lt true n x e = omega arith
+arc-lt false n x e = omega arith
 
 -- what is decoded is there and is carried
-pub position-carried : (k : Bool) (v : Values) → (hasPosition k (decodePosition k v) ≡ true) × (carriedPosition k (decodePosition k v) ≡ decodePosition k v)
+pub position-carried : (k : PositionKind) (v : Values) → (hasPosition k (decodePosition k v) ≡ true) × (carriedPosition k (decodePosition k v) ≡ decodePosition k v)
 unfolding decodePosition carriedPosition
-position-carried false v = (refl, refl)
-position-carried true v = (refl, refl)
+position-carried noPosition v = (refl, refl)
+position-carried degrees v = (refl, refl)
+position-carried minutes v = (refl, refl)
 
 -- ranges
 
-position-lt : (x : Position) → positionInRange x ≡ true → (encodeLatitude x ≤ 900000) × (encodeLongitude x ≤ 1800000) × (encodeAltitude x < 10000)
+-- a position of one kind tells nothing in the other
+record Within (x : Position) : Type 0 where
+  pub latitude : encodeLatitude degrees x ≤ 900000
+  pub longitude : encodeLongitude degrees x ≤ 1800000
+  pub high : encodeAltitude x < 10000
+  pub arcLatitude : encodeLatitude minutes x ≤ 540000
+  pub arcLongitude : encodeLongitude minutes x ≤ 1080000
+
+within : (x : Position) → positionInRange x ≡ true → Within x
 unfolding positionInRange
-position-lt positionIs.Absent e = omega arith
-position-lt (positionIs.Degrees lat lon alt) e =
+within positionIs.Absent e =
+    record { latitude = omega arith; longitude = omega arith; high = omega arith; arcLatitude = omega arith; arcLongitude = omega arith }
+within (positionIs.Degrees lat lon alt) e =
     let a = both (leb (natAbs lat) 900000) _ e in
     let b = both (leb (natAbs lon) 1800000) (leb alt 9999) (a .1) in
-    (leb-true (natAbs lat) 900000 (a .0), leb-true (natAbs lon) 1800000 (b .0), omega (arith, leb-true alt 9999 (b .1)))
+    record {
+      latitude = leb-true (natAbs lat) 900000 (a .0);
+      longitude = leb-true (natAbs lon) 1800000 (b .0);
+      high = omega (arith, leb-true alt 9999 (b .1));
+      arcLatitude = omega arith;
+      arcLongitude = omega arith;
+    }
+within (positionIs.Minutes lat lon) e =
+    let a = both (leb (natAbs lat) 540000) (leb (natAbs lon) 1080000) e in
+    record {
+      latitude = omega arith;
+      longitude = omega arith;
+      high = omega arith;
+      arcLatitude = leb-true (natAbs lat) 540000 (a .0);
+      arcLongitude = leb-true (natAbs lon) 1080000 (a .1);
+    }
 
 pub position-lts : (r : Record) → positionInRange (r .position) ≡ true → Each (λ (f : Slot). encode r f < bound f) ofPosition
 unfolding bound
 position-lts r h =
-    let t = position-lt (r .position) h in
-    let lat : encodeLatitude (r .position) / 10000 < 91 = omega arith in
-    let lon : encodeLongitude (r .position) / 10000 < 181 = omega arith in
+    let x = within (r .position) h in
     let part : (n : ℕ) → n % 10000 < 10000 = λ n. omega arith in
-    one-lt (isNegative (latitudeOf (r .position))) and lat and part (encodeLatitude (r .position))
-    and one-lt (isNegative (longitudeOf (r .position))) and lon and part (encodeLongitude (r .position))
-    and t .2
+    let arc : (n : ℕ) → n % 6000 / 100 < 60 = λ n. omega arith in
+    let hundredth : (n : ℕ) → n % 100 < 100 = λ n. omega arith in
+    let lat : encodeLatitude degrees (r .position) / 10000 < 91 = omega (arith, x .latitude) in
+    let lon : encodeLongitude degrees (r .position) / 10000 < 181 = omega (arith, x .longitude) in
+    let arcLat : encodeLatitude minutes (r .position) / 6000 < 91 = omega (arith, x .arcLatitude) in
+    let arcLon : encodeLongitude minutes (r .position) / 6000 < 181 = omega (arith, x .arcLongitude) in
+    one-lt (isNegative (latitudeOf (r .position))) and lat and part (encodeLatitude degrees (r .position))
+    and arcLat and arc (encodeLatitude minutes (r .position)) and hundredth (encodeLatitude minutes (r .position))
+    and one-lt (isNegative (longitudeOf (r .position))) and lon and part (encodeLongitude degrees (r .position))
+    and arcLon and arc (encodeLongitude minutes (r .position)) and hundredth (encodeLongitude minutes (r .position))
+    and x .high
     and none
 
-pub position-stays : (k : Bool) (x : Position) → positionInRange x ≡ true → positionInRange (carriedPosition k x) ≡ true
+pub position-stays : (k : PositionKind) (x : Position) → positionInRange x ≡ true → positionInRange (carriedPosition k x) ≡ true
 unfolding positionInRange carriedPosition
-position-stays false x h = refl
-position-stays true x h = h
+position-stays noPosition x h = refl
+position-stays degrees x h = h
+position-stays minutes x h = h

@@ -14,4 +14,5 @@ read-spec =
     (λ c κs. search needs) (λ c. rw (c .before .match .keys3) (c .read3 .ensures)) (λ c κs. search needs) (λ c. rw (c .before .match .keys4) (c .read4 .ensures))
     (λ c κs. search needs) (λ c. rw (c .before .match .keys5) (c .read5 .ensures)) (λ c κs. search needs) (λ c. rw (c .before .match .keys6) (c .read6 .ensures))
     (λ c κs. search needs) (λ c. rw (c .before .match .keys7) (c .read7 .ensures)) (λ c κs. search needs) (λ c. rw (c .before .match .keys8) (c .read8 .ensures))
+    (λ c κs. search needs) (λ c. rw (c .before .match .keys9) (c .read9 .ensures))
     (λ c. rw (no-form serialForms _ (c .match .rest))))

@@ -13,7 +13,7 @@ shape-of-spec =
     tie.close
     (tie.spec
     (λ c κs. search needs) (λ c κs. search needs) (λ c κs. search needs) (λ c κs. search needs) (λ c κs. search needs)
-    (λ c κs. search needs) (λ c κs. search needs) (λ c κs. search needs) (λ c κs. search needs)
+    (λ c κs. search needs) (λ c κs. search needs) (λ c κs. search needs) (λ c κs. search needs) (λ c κs. search needs)
     (λ c. c .shaped .ensures ∙ sym (ap shapeOf (c .before .match .keys1)))
     (λ c. c .shaped2 .ensures ∙ sym (ap shapeOf (c .before .match .keys2)))
     (λ c. c .shaped3 .ensures ∙ sym (ap shapeOf (c .before .match .keys3)))
@@ -22,4 +22,5 @@ shape-of-spec =
     (λ c. c .shaped6 .ensures ∙ sym (ap shapeOf (c .before .match .keys6)))
     (λ c. c .shaped7 .ensures ∙ sym (ap shapeOf (c .before .match .keys7)))
     (λ c. c .shaped8 .ensures ∙ sym (ap shapeOf (c .before .match .keys8)))
-    (λ c. c .shaped9 .ensures ∙ rw (no-form serialForms _ (c .before .match .rest))))
+    (λ c. c .shaped9 .ensures ∙ sym (ap shapeOf (c .before .match .keys9)))
+    (λ c. c .shaped10 .ensures ∙ rw (no-form serialForms _ (c .before .match .rest))))

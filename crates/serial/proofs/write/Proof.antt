@@ -14,7 +14,7 @@ write-spec =
     tie.close
     (tie.spec
     (λ c κs. search needs) (λ c κs. search needs) (λ c κs. search needs) (λ c κs. search needs) (λ c κs. search needs)
-    (λ c κs. search needs) (λ c κs. search needs) (λ c κs. search needs) (λ c. search needs)
+    (λ c κs. search needs) (λ c κs. search needs) (λ c κs. search needs) (λ c κs. search needs) (λ c. search needs)
     (λ c. wrote-sized (form (c .before .before .before .before .match .keys1)) (c .before .before .write .ensures)) (λ c. search needs)
     (λ c. wrote-sized (form (c .before .before .before .before .match .keys2)) (c .before .before .write2 .ensures)) (λ c. search needs)
     (λ c. wrote-sized (form (c .before .before .before .before .match .keys3)) (c .before .before .write3 .ensures)) (λ c. search needs)
@@ -22,5 +22,6 @@ write-spec =
     (λ c. wrote-sized (form (c .before .before .before .before .match .keys5)) (c .before .before .write5 .ensures)) (λ c. search needs)
     (λ c. wrote-sized (form (c .before .before .before .before .match .keys6)) (c .before .before .write6 .ensures)) (λ c. search needs)
     (λ c. wrote-sized (form (c .before .before .before .before .match .keys7)) (c .before .before .write7 .ensures)) (λ c. search needs)
-    (λ c. wrote-sized (form (c .before .before .before .before .match .keys8)) (c .before .before .write8 .ensures))
+    (λ c. wrote-sized (form (c .before .before .before .before .match .keys8)) (c .before .before .write8 .ensures)) (λ c. search needs)
+    (λ c. wrote-sized (form (c .before .before .before .before .match .keys9)) (c .before .before .write9 .ensures))
     (λ c. wrote-nothing (no-form serialForms _ (c .match .rest))))

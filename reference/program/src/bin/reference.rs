@@ -28,11 +28,14 @@
 //!
 //! FIELDS is a list of 14 fields with commas and no spaces, in the block's order. `-` is absent:
 //!
-//!     date        full:Y:M:D or day:N         fraction    3:N (thousandths) or 7:N
-//!     time        H:M:S                       channel     N
+//!     date        full:Y:M:D or day:N
+//!     time        H:M:S
+//!     fraction    2:N (hundredths), 3:N (thousandths) or 7:N (ten-millionths)
+//!     channel     N
 //!     sync, fix, utc, summer, change, leap    0 or 1 each
 //!     offset      minutes, with `-` in front if negative
-//!     position    LAT:LON:ALT (ten-thousandths of a degree, metres)
+//!     position    LAT:LON:ALT (ten-thousandths of a degree, metres) or min:LAT:LON (hundredths of
+//!                 a minute)
 //!     dsp, lsp    0 or 1 each
 //!
 //! `generate` keeps to values that fit in 8 bits (date, time, channel), 16 bits (day of year,

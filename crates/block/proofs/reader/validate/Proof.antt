@@ -10,8 +10,8 @@ validate-spec =
     tie.close
     (tie.spec
     (λ c κs. search needs) (λ c κs. search needs)
-    (λ c. rw (sym (c .before .before .before .before .before .in-range .ensures), sym (c .before .zone-agrees .ensures))
+    (λ c. rw (sym (c .before .before .before .before .before .before .in-range .ensures), sym (c .before .zone-agrees .ensures))
     (simp (c .before .before .before .if1 .taken, c .if2 .taken)))
-    (λ c. rw (sym (c .before .before .before .before .before .in-range .ensures), sym (c .before .zone-agrees .ensures))
+    (λ c. rw (sym (c .before .before .before .before .before .before .in-range .ensures), sym (c .before .zone-agrees .ensures))
     (simp (c .before .before .before .if1 .taken, c .if2 .left)))
-    (λ c. rw (sym (c .before .before .in-range .ensures)) (simp (c .if1 .left))))
+    (λ c. rw (sym (c .before .before .before .in-range .ensures)) (simp (c .if1 .left))))

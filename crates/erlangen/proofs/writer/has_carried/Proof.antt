@@ -4,7 +4,7 @@ use Rattle.forms.specs.Carries.{carriesOf}
 use Rattle.forms.specs.Fields.Date.{fullDate, hasDate}
 use Rattle.forms.specs.Fields.Flag.{hasFlag}
 use Rattle.forms.specs.Fields.Offset.{hasOffset}
-use Rattle.forms.specs.Fields.Position.{hasPosition}
+use Rattle.forms.specs.Fields.Position.{degrees, hasPosition}
 use Rattle.forms.specs.Required.{hasCarried}
 use Rattle.forms.specs.Places.{has}
 use Rattle.places.proofs.Chain.{flat}
@@ -23,5 +23,5 @@ has-carried-spec =
     let k = c .before .before .before .before in
     simp (k .before .before .before .has-full-date .ensures, k .before .before .has-flag .ensures, k .before .has-flag2 .ensures)
     (simp (k .has-flag3 .ensures, c .before .before .before .has-flag4 .ensures, c .before .before .has-flag5 .ensures)
-    (simp (c .before .has-offset .ensures, c .has-position .ensures)
-    (flat (hasDate fullDate (r .date)) (hasFlag true (r .sync) ∷ hasFlag true (r .fix) ∷ hasFlag true (r .summer) ∷ hasFlag true (r .change) ∷ hasFlag true (r .leap) ∷ hasOffset true (r .offset) ∷ hasPosition true (r .position) ∷ []))))))
+    (simp (c .before .has-offset .ensures, c .has-degrees .ensures)
+    (flat (hasDate fullDate (r .date)) (hasFlag true (r .sync) ∷ hasFlag true (r .fix) ∷ hasFlag true (r .summer) ∷ hasFlag true (r .change) ∷ hasFlag true (r .leap) ∷ hasOffset true (r .offset) ∷ hasPosition degrees (r .position) ∷ []))))))

@@ -1,4 +1,4 @@
--- The number in the field is one of 32 bits, so the calls see it as it is.
+-- The number in the field is one of 32 bits, so the call sees it as it is.
 use Rattle.cond.proofs.Kit.{_∙_, ap, natAbs, needs, SFits, sym, toZ-ofZ, w32}
 use Rattle.record.specs.Sign.{isNegative}
 use Rattle.forms.specs.Fields.Offset.{encodeMinutes}
@@ -10,10 +10,10 @@ pub parts-spec : {M : Type 1} → statement M
 parts-spec =
     tie.close
     (tie.spec
-    (λ c. search needs) (λ c. search needs) (λ c κs. search needs) (λ c κs. search needs) (λ c. search needs)
+    (λ c. search needs) (λ c. search needs) (λ c κs. search needs) (λ c. search needs)
     (λ c.
-    let there = c .before .before .before .offset .given in
+    let there = c .before .before .offset .given in
     let fits : SFits w32 (there .0 .0) = search needs in (
-      c .before .is-negative .ensures ∙ ap isNegative (toZ-ofZ fits) ∙ sym (ap isMinus (there .1)),
-      c .magnitude .ensures ∙ ap natAbs (toZ-ofZ fits) ∙ sym (ap encodeMinutes (there .1)),
+      c .apart .ensures .0 ∙ ap isNegative (toZ-ofZ fits) ∙ sym (ap isMinus (there .1)),
+      c .apart .ensures .1 ∙ ap natAbs (toZ-ofZ fits) ∙ sym (ap encodeMinutes (there .1)),
     )))

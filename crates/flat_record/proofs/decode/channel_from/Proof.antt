@@ -7,8 +7,9 @@ pub channel-from-spec : {M : Type 1} → statement M
 channel-from-spec =
     tie.close
     (tie.spec
-    (λ c κs. search needs) (λ c. search needs) (λ c. search needs) (λ c. search needs) (λ c. search needs)
+    (λ c κs. search needs) (λ c. search needs) (λ c. search needs) (λ c. search needs) (λ c. search needs) (λ c. search needs)
     (λ c. simp (sym (c .before .before .kind-of .ensures) ∙ c .enum-told .given .1))
     (λ c. simp (sym (c .before .before .kind-of .ensures) ∙ c .enum-told2 .given .1))
     (λ c. simp (sym (c .before .before .kind-of .ensures) ∙ c .enum-told3 .given .1))
-    (λ c. simp (sym (c .before .before .kind-of .ensures) ∙ c .enum-told4 .given .1)))
+    (λ c. simp (sym (c .before .before .kind-of .ensures) ∙ c .enum-told4 .given .1))
+    (λ c. simp (sym (c .before .before .kind-of .ensures) ∙ c .enum-told5 .given .1)))

@@ -1,7 +1,7 @@
 -- Each kind is a case of its own.
 use Rattle.cond.proofs.Kit.{needs}
 use Rattle.flat_record.specs.Decode.{kindOf}
-use Rattle.flat_record.proofs.OneKind.{none-fits}
+use Rattle.flat_record.proofs.OneKind.{neither-fits}
 use Rattle.flat_record.proofs.decode.position_fits.Statement.{statement}
 use Rattle.flat_record.proofs.decode.position_fits.Tie as tie
 
@@ -10,9 +10,7 @@ unfolding kindOf
 position-fits-spec =
     tie.close
     (tie.spec
-    (λ c. search needs) (λ c. search needs) (λ c. search needs) (λ c κs. search needs) (λ c. search needs) (λ c. search needs)
-    (λ c κs. search needs) (λ c. simp (c .match .keys1))
-    (λ c.
-    simp
-    (c .before .before .before .before .before .before .match .keys2, c .sign-fits2 .ensures, c .before .before .before .sign-fits .ensures))
-    (λ c. none-fits _ _ (c .match .rest .0 .1) (c .match .rest .1)))
+    (λ c. search needs) (λ c κs. search needs) (λ c κs. search needs) (λ c. simp (c .match .keys1))
+    (λ c. simp (c .before .match .keys2, c .signs-fit .ensures))
+    (λ c. simp (c .before .match .keys3, c .signs-fit2 .ensures))
+    (λ c. neither-fits _ _ (c .match .rest .0 .0 .1) (c .match .rest .0 .1) (c .match .rest .1)))

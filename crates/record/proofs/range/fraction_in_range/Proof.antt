@@ -9,5 +9,6 @@ unfolding fractionInRange
 fraction-in-range-spec =
     tie.close
     (tie.spec
-    (λ c. search needs) (λ c. search needs) (λ c. search needs) (λ c. search needs)
-    (λ c. sym (ap fractionInRange (c .before .fraction .given .1))) (λ c. sym (ap fractionInRange (c .before .fraction2 .given .1))))
+    (λ c. search needs) (λ c. search needs) (λ c. search needs) (λ c. search needs) (λ c. search needs)
+    (λ c. sym (ap fractionInRange (c .before .fraction .given .1))) (λ c. sym (ap fractionInRange (c .before .fraction2 .given .1)))
+    (λ c. sym (ap fractionInRange (c .before .fraction3 .given .1))))

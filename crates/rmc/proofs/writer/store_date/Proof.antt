@@ -1,0 +1,14 @@
+-- The stores are those of the layout's piece, place by place.
+use borrow.Author.Needs.{needs}
+use Rattle.places.specs.Stores.{stores}
+use Rattle.rmc.proofs.writer.store_date.Statement.{statement}
+use Rattle.rmc.proofs.writer.store_date.Tie as tie
+
+pub store-date-spec : {M : Type 1} → statement M
+unfolding stores
+store-date-spec =
+    tie.close
+    (tie.spec
+    (λ c. search needs) (λ c κs. search needs) (λ c κs. search needs) (λ c κs. search needs) (λ c κs. search needs)
+    (λ c κs. search needs) (λ c. search needs) (λ c κs. search needs) (λ c. search needs)
+    (λ c. cc))
