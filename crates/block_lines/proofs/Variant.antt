@@ -1,5 +1,5 @@
 -- The variant of a line that decides: the first that fits.
-use Rattle.cond.proofs.Kit.{[], _++_, _∙_, _∷_, _≡_, ap, false, List, refl, true, ℕ}
+use Rattle.cond.proofs.Kit.{[], _++_, _∷_, _≡_, false, List, refl, true, ℕ}
 use Rattle.forms.specs.Block.{Line, variantAt}
 use Rattle.forms.specs.Places.{Layout, layoutWidth, shape, values}
 use Rattle.block_lines.specs.Reading.{decoded, lineRead, onto}

@@ -16,7 +16,7 @@ use Rattle.forms.proofs.Fields.Date.{date-lts, date-stays}
 use Rattle.forms.proofs.Fields.Flag.{one-lt, pairOf}
 use Rattle.forms.proofs.Fields.Fraction.{fraction-lts, fraction-stays}
 use Rattle.forms.proofs.Fields.Offset.{offset-lts, offset-stays}
-use Rattle.forms.proofs.Fields.Position.{position-lts, position-stays}
+use Rattle.forms.proofs.Fields.PositionRanges.{position-lts, position-stays}
 use Rattle.forms.proofs.Fields.Time.{derived-lts, time-lts}
 use Rattle.forms.proofs.Limits.{bound}
 use Rattle.forms.proofs.Slots.{Each, _and_, _then_, every-each, none, ofFlags}

@@ -7,3 +7,4 @@ pub mod Fraction
 pub mod Channel
 pub mod Offset
 pub mod Position
+pub mod PositionRanges

@@ -27,7 +27,8 @@ use Rattle.forms.proofs.Fields.Date.{date-decoded, full-slots, weekday-
 use Rattle.forms.proofs.Fields.Flag.{first-decoded, own-decoded, quality-holds, second-decoded, sync-decoded}
 use Rattle.forms.proofs.Fields.Fraction.{fraction-decoded}
 use Rattle.forms.proofs.Fields.Offset.{Offsets, minutes-lt, offset-decoded, offset-consistent}
-use Rattle.forms.proofs.Fields.Position.{arc-lt, position-decoded, position-consistent}
+use Rattle.forms.proofs.Fields.Position.{position-decoded, position-consistent}
+use Rattle.forms.proofs.Fields.PositionRanges.{arc-lt}
 use Rattle.forms.proofs.Fields.Time.{deletion-holds, follows-holds}
 use Rattle.forms.proofs.Required.{all-of}
 use Rattle.forms.proofs.Slots.{every, every-in, ofDate, ofFraction, ofOffset, ofPosition, ofTime}

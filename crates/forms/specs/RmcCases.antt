@@ -28,7 +28,7 @@ example = positionIs.Minutes (pos 284100) (pos 48375)
 abbrev pub exampleDegrees : Position
 exampleDegrees = positionIs.Degrees (pos 473500) (pos 80625) 431
 
--- the string of noon with these bytes for latitude, longitude and sum
+-- the string of noon with these bytes from the latitude to the sum
 abbrev pub noon : String → List ℕ
 noon t = text "$GPRMC,120000.00,A," ++ text t ++ text "\r\n"
 

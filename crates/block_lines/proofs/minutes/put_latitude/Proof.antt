@@ -11,4 +11,7 @@ put-latitude-spec =
     (tie.spec
     (λ c κs. search needs) (λ c. search needs) (λ c κs. search needs) (λ c. search needs) (λ c κs. search needs) (λ c κs. search needs)
     (λ c κs. search needs) (λ c κs. search needs) (λ c κs. search needs) (λ c. search needs)
-    (λ c. cc))
+    (λ c.
+    let d = c .before .before .before .before .before .before .before .before .before .before in
+    let e = d .before .before .before .before in
+    rw (c .before .before .put-byte .ensures, c .before .before .before .before .before .before .put-arc .ensures, d .put-digits .ensures, e .put-choice .ensures, e .before .is-south .ensures, e .before .before .before .before .before .before .put-bytes .ensures, e .before .before .before .before .before .before .before .before .before .latitude-in-minutes .ensures)))

@@ -11,4 +11,7 @@ put-longitude-spec =
     (tie.spec
     (λ c κs. search needs) (λ c. search needs) (λ c κs. search needs) (λ c κs. search needs) (λ c κs. search needs)
     (λ c κs. search needs) (λ c κs. search needs) (λ c. search needs)
-    (λ c. cc))
+    (λ c.
+    let d = c .before .before .before .before .before .before .before .before .before .before in
+    let e = d .before .before .before .before in
+    rw (c .before .before .put-byte .ensures, c .before .before .before .before .before .before .put-arc .ensures, d .put-digits .ensures, e .put-choice .ensures, e .before .is-west .ensures, e .before .before .before .before .longitude-in-minutes .ensures)))

@@ -11,4 +11,6 @@ store-date-spec =
     (tie.spec
     (λ c. search needs) (λ c κs. search needs) (λ c κs. search needs) (λ c κs. search needs) (λ c κs. search needs)
     (λ c κs. search needs) (λ c. search needs) (λ c κs. search needs) (λ c. search needs)
-    (λ c. cc))
+    (λ c.
+    let d = c .before .before .before .before .before .before .before in
+    rw (c .before .before .put-bytes2 .ensures, d .put-triple .ensures, d .before .year-of .ensures, d .before .before .month-of .ensures, d .before .before .before .day-of .ensures, d .before .before .before .before .before .before .before .put-bytes .ensures)))

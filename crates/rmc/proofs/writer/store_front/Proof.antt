@@ -10,4 +10,6 @@ store-front-spec =
     tie.close
     (tie.spec
     (λ c κs. search needs) (λ c κs. search needs) (λ c κs. search needs) (λ c κs. search needs) (λ c. search needs)
-    (λ c. cc))
+    (λ c.
+    let d = c .before .before .before .before .before .before in
+    rw (c .before .before .store-date .ensures, d .store-longitude .ensures, d .before .before .before .before .store-latitude .ensures, d .before .before .before .before .before .before .before .before .store-time .ensures)))

@@ -11,4 +11,9 @@ store-latitude-spec =
     (tie.spec
     (λ c κs. search needs) (λ c κs. search needs) (λ c κs. search needs) (λ c κs. search needs) (λ c. search needs)
     (λ c κs. search needs) (λ c κs. search needs) (λ c κs. search needs) (λ c. search needs)
-    (λ c. cc))
+    (λ c.
+    let d = c .before .before .before .before .before .before in
+    let e = d .before .before .before .before .before .before in
+    let f = e .before .before .before .before in
+    let g = f .before .before .before .before in
+    rw (c .before .before .put-byte2 .ensures, d .put-choice .ensures, d .before .is-south .ensures, e .put-byte .ensures, f .put-arc .ensures, g .put-digits .ensures, g .before .before .latitude-in-minutes .ensures)))

@@ -11,4 +11,8 @@ store-longitude-spec =
     (tie.spec
     (λ c κs. search needs) (λ c κs. search needs) (λ c κs. search needs) (λ c κs. search needs) (λ c. search needs)
     (λ c κs. search needs) (λ c κs. search needs) (λ c. search needs)
-    (λ c. cc))
+    (λ c.
+    let e = c .before .before .before .before .before .before .before .before in
+    let f = e .before .before .before .before in
+    let g = f .before .before .before .before in
+    rw (c .before .before .put-choice .ensures, c .before .before .before .is-west .ensures, e .put-byte .ensures, f .put-arc .ensures, g .put-digits .ensures, g .before .before .longitude-in-minutes .ensures)))
