@@ -123,10 +123,10 @@ enum { LINDENSCOOP_STATE_VERSION = 1 };
  * on a magnitude of 0 is dropped. The library stores 0 or 1 as a sign, and 0 on a magnitude of 0.
  *
  * The numbers named ..._units are in the unit of their field's kind, which stands before them. Until form 12 came a fraction had
- * two kinds and a position one, and these and altitude_metres were named fraction_value, latitude, longitude and altitude. Code that
- * uses the old names does not compile any more, so that no minute is read as a degree and no altitude that was not sent as 0. It asks by lindenscoop_get_fraction and lindenscoop_get_position,
- * which are as they were and answer false for the kinds that came with form 12, and by lindenscoop_get_hundredths and
- * lindenscoop_get_position_minutes, which answer for these alone.
+ * two kinds and a position one, and these and altitude_metres were named fraction_value, latitude, longitude and altitude. Code
+ * that uses the old names does not compile any more, so that no minute is read as a degree, and no altitude that was not sent as
+ * 0. It asks by lindenscoop_get_fraction and lindenscoop_get_position, which are as they were and answer false for the kinds that
+ * came with form 12, and by lindenscoop_get_hundredths and lindenscoop_get_position_minutes, which answer for these alone.
  */
 typedef struct lindenscoop_record {
     uint32_t hour;                    /* 0..23 */
