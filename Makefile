@@ -20,14 +20,14 @@ INSTALL = install
 
 version := $(shell scripts/version)
 so := liblindenscoop.so
-so_linked := $(so).$(firstword $(subst ., ,$(version)))
+so_linked := $(so).$(basename $(version))
 static := target/staticlib/liblindenscoop.a
 shared := target/sharedlib/$(so).$(version)
 command := $(or $(CARGO_TARGET_DIR),target/cargo)/release/lindenscoop
 proved := crates.txt $(shell find crates -type f -not -path '*/must-fail/*')
 rust := Cargo.toml .cargo/config.toml $(shell find command bindings/rust -name '*.rs' -o -name Cargo.toml)
 module := $(notdir $(wildcard python/lindenscoop/*.py))
-described := read write search start feed feed_all mark day_number message
+described := read write search start feed feed_all mark full_year days_since_1980 message
 D = $(DESTDIR)
 put = $(INSTALL) -D -m
 

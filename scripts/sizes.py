@@ -17,9 +17,9 @@ import tempfile
 
 ROOT = pathlib.Path(__file__).resolve().parent.parent
 LIBRARY = ROOT / "target/staticlib/liblindenscoop.a"
-NAMES = ("read", "write", "search", "start", "feed", "feed_all", "mark", "day_number")
+NAMES = ("read", "write", "search", "start", "feed", "feed_all", "mark", "full_year", "days_since_1980")
 # those that take no record
-RAW = ("start", "mark", "day_number")
+RAW = ("start", "mark", "full_year", "days_since_1980")
 
 
 def exported(name):

@@ -14,7 +14,7 @@ cc=${CC:-cc} cxx=${CXX:-c++}
 
 # Every exported function is declared, ends in _numbers where it takes a record and in _raw where it takes none, and has one of the plain name over it.
 exported=$(nm -g --defined-only "$lib" | sed -n 's/^.* T //p' | sort)
-declared=$(sed -n 's/^LINDENSCOOP_NOT_NULL uint32_t \(lindenscoop_[a-z_]*\)(.*;$/\1/p' "$include/lindenscoop.h" | sort)
+declared=$(sed -n 's/^LINDENSCOOP_NOT_NULL uint32_t \(lindenscoop_[a-z0-9_]*\)(.*;$/\1/p' "$include/lindenscoop.h" | sort)
 [ -n "$exported" ] && [ "$exported" = "$declared" ] || { printf 'test-c: the library exports\n%s\nand the header declares\n%s\n' "$exported" "$declared" >&2; exit 1; }
 for name in $exported; do
     end=_raw
@@ -22,7 +22,7 @@ for name in $exported; do
         end=_numbers
     fi
     plain=${name%"$end"}
-    [ "$plain" != "$name" ] && grep -q "^static inline uint32_t $plain(" "$include/lindenscoop.h" \
+    [ "$plain" != "$name" ] && grep -q "^static inline .* $plain(" "$include/lindenscoop.h" \
         || { echo "test-c: $name does not end in $end, or there is no function of the name without it" >&2; exit 1; }
 done
 
@@ -37,12 +37,14 @@ for name in fields kinds rmc; do
     "$made/${name}_cpp"
 done
 
-# Whether a field is there must be looked at.
-printf '#include "lindenscoop.h"\nint main(void) { lindenscoop_record r = {0}; int32_t minutes = 0; lindenscoop_get_offset(&r, &minutes); return minutes; }\n' >"$made/unlooked.c"
-if $cc -std=c11 -Werror -I$include -c "$made/unlooked.c" -o "$made/unlooked.o" 2>"$made/unlooked.log" || ! grep -q 'unused' "$made/unlooked.log"; then
-    echo 'test-c: an answer of lindenscoop_get_offset that is not looked at is not warned of' >&2
-    exit 1
-fi
+# Whether a field is there, and whether two digits are a year, must be looked at.
+for call in 'lindenscoop_get_offset(&r, &minutes)' 'lindenscoop_full_year(r.yy, &year)'; do
+    printf '#include "lindenscoop.h"\nint main(void) { lindenscoop_record r = {0}; int32_t minutes = 0; uint32_t year = 0; %s; return minutes || year; }\n' "$call" >"$made/unlooked.c"
+    if $cc -std=c11 -Werror -I$include -c "$made/unlooked.c" -o "$made/unlooked.o" 2>"$made/unlooked.log" || ! grep -q 'unused' "$made/unlooked.log"; then
+        echo "test-c: an answer of $call that is not looked at is not warned of" >&2
+        exit 1
+    fi
+done
 
 # Whether the header declares a name, and whether a program that calls it can be linked.
 is_declared() {
@@ -54,26 +56,32 @@ is_linked() {
     LC_ALL=C $cc -std=c11 "$made/linked.c" "$lib" -o "$made/linked" 2>"$made/linked.log"
 }
 
-# Code from before there were kinds, which took a record's numbers by calls of these names, neither compiles nor links; by the new names it does both.
-for plain in read write search feed feed_all; do
-    old=lindenscoop_${plain}_raw new=lindenscoop_${plain}_numbers
+# Code from before there were kinds, which took a record's numbers by calls of these names, neither compiles nor links, nor does code that
+# counted days from 2000; by the new names it does both.
+for pair in read_raw:read_numbers write_raw:write_numbers search_raw:search_numbers feed_raw:feed_numbers feed_all_raw:feed_all_numbers \
+    day_number_raw:days_since_1980_raw; do
+    old=lindenscoop_${pair%:*} new=lindenscoop_${pair#*:}
     is_declared "$new" && is_linked "$new" || { echo "test-c: there is no $new" >&2; exit 1; }
     if is_declared "$old" || ! grep -q "$old.*undeclared\|undeclared.*$old" "$made/declared.log" \
         || is_linked "$old" || ! grep -q "undefined.*$old" "$made/linked.log"; then
-        echo "test-c: code that takes a record's numbers by $old, and cannot know all their kinds, still compiles or links" >&2
+        echo "test-c: code that calls $old, which meant another thing than $new, still compiles or links" >&2
         exit 1
     fi
 done
+if is_declared lindenscoop_day_number || ! grep -q 'undeclared' "$made/declared.log"; then
+    echo 'test-c: code that counts days from 2000 by lindenscoop_day_number still compiles' >&2
+    exit 1
+fi
 
-# Code from before there were kinds, which took a number for one unit, does not compile; by the new names it does.
-for pair in fraction_value:fraction_units latitude:latitude_units longitude:longitude_units altitude:altitude_metres; do
+# Code that takes a number for the one unit that it once had, or two digits for a year from 2000 on, does not compile; by the new names it does.
+for pair in fraction_value:fraction_units latitude:latitude_units longitude:longitude_units altitude:altitude_metres year:yy; do
     old=${pair%:*} new=${pair#*:}
     for name in "$old" "$new"; do
         printf '#include "lindenscoop.h"\nint main(void) { lindenscoop_record r = {0}; return r.%s != 0; }\n' "$name" >"$made/$name.c"
     done
     $cc -std=c11 -fsyntax-only -I$include "$made/$new.c"
     if LC_ALL=C $cc -std=c11 -fsyntax-only -I$include "$made/$old.c" 2>"$made/$old.log" || ! grep -q "no member named '$old'" "$made/$old.log"; then
-        echo "test-c: code that takes $old for one unit still compiles" >&2
+        echo "test-c: code that takes $old for what it once meant still compiles" >&2
         exit 1
     fi
 done

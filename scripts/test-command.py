@@ -338,6 +338,20 @@ def test_export_absent():
     check("zero that was sent in minutes", out.splitlines()[1].endswith(b",,0.00,720.75"), out)
 
 
+def test_export_years():
+    """The year has its century, by the rule of W-205: 80 to 99 are 1980 to 1999, 00 to 79 are 2000 to 2079."""
+    for yy in range(100):
+        year = "%d" % (yy + (1900 if yy >= 80 else 2000))
+        string = b"XGU%02d0630000000\r" % yy
+        row = run("export", "--csv", "--form", "racal", "-", given=string)[1].splitlines()[1]
+        line = run("export", "--json", "--form", "racal", "-", given=string)[1]
+        told = (row.split(b",")[1].decode(), json.loads(line)["date"], run("write", "racal", given=line)[1])
+        check("the year of %02d" % yy, told == (year + "-06-30", year + "-06-30", string), told)
+    tuesday = A.replace(b"01.01.24;T:1", b"01.01.91;T:2")
+    out = run("export", "--csv", "--form", "1", "-", given=tuesday + tuesday.replace(b"T:2", b"T:1"))[1]
+    check("1991 with its weekday alone", [line.split(b",")[:2] for line in out.splitlines()[1:]] == [[b"0", b"1991-01-01"]], out)
+
+
 def test_export_pieces():
     """Strings over the ends of pieces, each found once and at its place."""
     count = 30000
@@ -625,7 +639,8 @@ def test_write_refused():
     wrong = {
         b"time": b"column 1", b'{"date":"2024-02-29"}': b"\"time\" is missing", b'{"date":"2024-02-29","time":"12:00"}': b"\"time\" must be",
         b'{"date":"2023-02-29","time":"12:00:00"}': b"refused with 7", b'{"time":"12:00:00"}': b"refused with 8",
-        b'{"date":"1999-01-01","time":"12:00:00"}': b"2000 to 2099", b'{"date":20240229,"time":"12:00:00"}': b"must be a string",
+        b'{"date":"1979-12-31","time":"12:00:00"}': b"1980 to 2079", b'{"date":20240229,"time":"12:00:00"}': b"must be a string",
+        b'{"date":"2080-01-01","time":"12:00:00"}': b"1980 to 2079", b'{"date":"0091-01-01","time":"12:00:00"}': b"1980 to 2079",
         b'{"date":"2024-02-29","time":"12:00:00","snyc":true}': b"no field \"snyc\"", b'{"time":"12:00:00","time":"12:00:01"}': b"twice",
         b'{"time":"12:00:00","date":"2024-02-29","day_of_year":60}': b"one of them must be null", good + b"}": b"nothing more",
         b'{"time":"12:00:00","latitude":1.5}': b"together", b'{"time":"12:00:00","longitude":1.5,"altitude":1}': b"together",

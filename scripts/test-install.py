@@ -17,10 +17,10 @@ import traceback
 
 ROOT = pathlib.Path(__file__).resolve().parent.parent
 COMMANDS = ["listen", "export", "why", "write", "simulate"]
-FUNCTIONS = ["read", "write", "search", "start", "feed", "feed_all", "mark", "day_number", "message"]
+FUNCTIONS = ["read", "write", "search", "start", "feed", "feed_all", "mark", "full_year", "days_since_1980", "message"]
 VERSION = subprocess.run([ROOT / "scripts/version"], capture_output=True, text=True).stdout.strip()
 SO = "liblindenscoop.so"
-LINKED = SO + "." + VERSION.split(".")[0]
+LINKED = SO + "." + VERSION.rsplit(".", 1)[0]
 PYTHON = "python%d.%d" % sys.version_info[:2]
 # What a caller has set must not decide what is found.
 FOREIGN = ("MAKEFLAGS", "MAKELEVEL", "MFLAGS", "PREFIX", "DESTDIR", "LD_LIBRARY_PATH", "LINDENSCOOP_LIBRARY", "LINDENSCOOP_LIB_DIR", "PYTHONPATH",
@@ -101,7 +101,7 @@ def test_exports(prefix, _):
     names = run("nm", "-D", "--defined-only", prefix / "lib" / SO).stdout.split("\n")
     declared = set(re.findall(r"^LINDENSCOOP_NOT_NULL uint32_t (\w+)\(", header, re.M))
     same("exported names", {line.split()[-1] for line in names if line}, declared)
-    check("exported names are some", len(declared) == 8, declared)
+    check("exported names are some", len(declared) == 9, declared)
 
 
 # ---- From C, C++ and Python ----

@@ -76,7 +76,8 @@ def parsed_date(text):
     kind, *numbers = text.split(":")
     if kind == "day":
         return ls.DayOfYear(int(numbers[0]))
-    return ls.Date(2000 + int(numbers[0]), int(numbers[1]), int(numbers[2]))
+    year, month, day = map(int, numbers)
+    return ls.Date(year + (1900 if 80 <= year <= 99 else 2000), month, day)
 
 
 def parsed_fraction(text):
@@ -289,8 +290,11 @@ def single_fields():
     yield {}, "time", "00:00:00"
     yield {"hour": 23, "minute": 59, "second": 60}, "time", "23:59:60"
     yield {"date": ls.Date(2024, 2, 29)}, "date", "24-02-29"
+    yield {"date": ls.Date(1980, 1, 1)}, "date", "80-01-01"
+    yield {"date": ls.Date(1991, 1, 1)}, "date", "91-01-01"
+    yield {"date": ls.Date(1999, 12, 31)}, "date", "99-12-31"
     yield {"date": ls.Date(2000, 1, 1)}, "date", "00-01-01"
-    yield {"date": ls.Date(2099, 12, 31)}, "date", "99-12-31"
+    yield {"date": ls.Date(2079, 12, 31)}, "date", "79-12-31"
     yield {"date": ls.DayOfYear(366)}, "date", "day-366"
     for text, fraction in fractions():
         yield {"fraction": fraction}, "fraction", text
@@ -352,7 +356,8 @@ def bad_records():
         yield {"date": ls.DayOfYear(wide)}
         yield {"date": ls.Date(2024, wide, 1)}
         yield {"date": ls.Date(2024, 1, wide)}
-        yield {"date": ls.Date(2000 + wide, 1, 1)}
+        yield {"date": ls.Date(wide, 1, 1)}
+        yield {"date": ls.Date(2000 + 100 * wide, 1, 1)}
         yield {"fraction": ls.Fraction(wide, 3)}
         yield {"position": ls.Position(0, 0, wide)}
     for wide in (841, -841, 2**31, 2**32, -(2**32), 2**32 + 60, -(2**31)):
@@ -367,8 +372,8 @@ def bad_records():
         yield {"position": ls.PositionInMinutes(latitude, longitude)}
     for value, digits in ((1000, 3), (10000000, 7)):
         yield {"fraction": ls.Fraction(value, digits)}
-    yield {"date": ls.Date(24, 1, 1)}
-    yield {"date": ls.Date(2100, 1, 1)}
+    for year in (24, 91, 1891, 1979, 2080, 2091, 2100):
+        yield {"date": ls.Date(year, 1, 1)}
     yield {"date": ls.Date(2023, 2, 29)}
     for digits in (0, 1, 2, 4, 6, 8):
         yield {"fraction": ls.Fraction(0, digits)}
@@ -398,34 +403,62 @@ def test_values_of_another_type():
 
 
 def counted(year, month, day):
-    """The number of a day by Python's own calendar; None where there is no such date of 2000 to 2099."""
+    """The number of a day by Python's own calendar; None where there is no such date of 1980 to 2079."""
     try:
         date = datetime.date(year, month, day)
     except ValueError:
         return None
-    return (date - datetime.date(2000, 1, 1)).days if 2000 <= year <= 2099 else None
+    return (date - datetime.date(1980, 1, 1)).days if 1980 <= year <= 2079 else None
 
 
 def test_every_day():
     """Every date of the calendar and of the years beside it, with the days and months that there are not."""
-    dates = [(year, month, day) for year in range(1999, 2101) for month in range(14) for day in range(33)]
-    wrong = [date for date in dates if ls.day_number(*date) != counted(*date)]
+    dates = [(year, month, day) for year in range(1979, 2081) for month in range(14) for day in range(33)]
+    wrong = [date for date in dates if ls.days_since_1980(*date) != counted(*date)]
     same(wrong[:5], [], "dates whose numbers are not those of datetime")
-    numbers = [number for number in (ls.day_number(*date) for date in dates) if number is not None]
-    same(numbers, list(range((datetime.date(2100, 1, 1) - datetime.date(2000, 1, 1)).days)), "the days of 2000 to 2099 in their order")
+    numbers = [number for number in (ls.days_since_1980(*date) for date in dates) if number is not None]
+    same(numbers, list(range((datetime.date(2080, 1, 1) - datetime.date(1980, 1, 1)).days)), "the days of 1980 to 2079 in their order")
+
+
+def test_every_weekday():
+    """Of every date of the calendar a string has the weekday of datetime, and tells the date again; of the years beside it there is none."""
+    first = datetime.date(1980, 1, 1)
+    flags = {"sync": True, "fix": True, "utc": True, "summer": False, "change": False, "leap": False}
+    for date in (first + datetime.timedelta(number) for number in range(36525)):
+        string = ls.write("standard", ls.Record(date=ls.Date(date.year, date.month, date.day), **flags))
+        told = ls.read("standard", string).date
+        wanted = f"\x02D:{date:%d.%m.%y};T:{date.isoweekday()};U:00.00.00;  U \x03".encode()
+        if (string, (told.year, told.month, told.day)) != (wanted, (date.year, date.month, date.day)):
+            check(False, f"{date}: {string}, {told}")
+            return
+    same(date, datetime.date(2079, 12, 31), "the calendar's last day")
+    for year in (1979, 2080):
+        same(number_of(ls.write, "standard", ls.Record(date=ls.Date(year, 6, 30), **flags)), 7, f"a string of {year}")
+
+
+def test_nineties():
+    """Of 1991, with its weekday and with that of 2091."""
+    tuesday = b"\x02D:01.01.91;T:2;U:12.00.00;  U \x03"
+    record = ls.read("standard", tuesday)
+    same(record.date, ls.Date(1991, 1, 1), "a string of 1991")
+    same(ls.write("standard", record), tuesday, "a string of 1991, written again")
+    same(number_of(ls.read, "standard", tuesday.replace(b"T:2", b"T:1")), 5, "a string of 1991 with the weekday of 2091")
+    change = b"".join(b"\x02D:%s;  U \x03" % told for told in (b"31.12.99;T:5;U:23.59.59", b"01.01.00;T:6;U:00.00.00"))
+    same([found.record.date for found in ls.heard("standard", change)], [ls.Date(1999, 12, 31), ls.Date(2000, 1, 1)], "from 1999 to 2000")
 
 
 def test_days():
     string = ls.read("racal", b"XGU240229000000\r").date
-    same(ls.day_number(string.year, string.month, string.day), 8825, "the day of a string")
-    for date, number in (((2000, 1, 1), 0), ((2000, 2, 29), 59), ((2001, 1, 1), 366), ((2099, 12, 31), 36524)):
-        same(ls.day_number(*date), number, f"{date}")
+    same(ls.days_since_1980(string.year, string.month, string.day), 16130, "the day of a string")
+    for date, number in (((1980, 1, 1), 0), ((1980, 2, 29), 59), ((1981, 1, 1), 366), ((2000, 1, 1), 7305), ((2079, 12, 31), 36524)):
+        same(ls.days_since_1980(*date), number, f"{date}")
     for wide in (-1, 0, 2**32, 2**32 + 1, 2**64, 2**64 + 1, -(2**32)):
-        for date in ((2000 + (wide or 100), 1, 1), (wide, 1, 1), (2024, wide, 1), (2024, 1, wide)):
-            check(ls.day_number(*date) is None, f"there is a number of {date}")
+        for date in ((2000 + 100 * (wide or 1), 1, 1), (wide, 1, 1), (2024, wide, 1), (2024, 1, wide)):
+            check(ls.days_since_1980(*date) is None, f"there is a number of {date}")
     for wrong in (True, 1.0, "1", None):
         for date in ((wrong, 1, 1), (2024, wrong, 1), (2024, 1, wrong)):
-            check(" not " in raises(TypeError, ls.day_number, *date), f"{date}: no TypeError that says what is needed")
+            check(" not " in raises(TypeError, ls.days_since_1980, *date), f"{date}: no TypeError that says what is needed")
+    check(not hasattr(ls, "day_number"), "the days are still counted by the name that meant those from 2000 on")
 
 
 # ---- Refusals and forms ----
@@ -622,23 +655,28 @@ def test_how_the_library_is_found(made):
         check("make-shared.sh" in err and "LINDENSCOOP_LIBRARY" in err, "what to do where the library is missing is not said")
 
 
-OLD_NAMES = tuple(f"lindenscoop_{name}_raw" for name in ("read", "write", "search", "feed", "feed_all"))
-SAME_NAMES = "lindenscoop_start_raw", "lindenscoop_mark_raw", "lindenscoop_day_number_raw"
+WITH_RECORDS = "read", "write", "search", "feed", "feed_all"
+#: the names before there were kinds, and those that took their place
+BEFORE_KINDS, RECORD_NAMES = (tuple(f"lindenscoop_{name}_{end}" for name in WITH_RECORDS) for end in ("raw", "numbers"))
+#: what counted days from 2000, when all years were of 2000 and later
+BEFORE_1980 = ("lindenscoop_day_number_raw",)
+SAME_NAMES = "lindenscoop_start_raw", "lindenscoop_mark_raw"
 
 
-def test_names_from_before_there_were_kinds(made):
-    """The functions that take a record have other names since, so that a module and a library from before and from after do not go together."""
+def test_names_from_before(made):
+    """What once meant another thing has another name since, so that a module and a library from before and from after do not go together."""
     library = ctypes.CDLL(str(made))
-    for name in OLD_NAMES:
-        check("undefined symbol" in raises(AttributeError, getattr, library, name), f"{name} is there, and a module from before would take minutes for degrees")
+    for name in BEFORE_KINDS + BEFORE_1980:
+        check("undefined symbol" in raises(AttributeError, getattr, library, name), f"{name} is there, and a module from before would take minutes for degrees or 1991 for 2091")
     for name in SAME_NAMES:
         check(hasattr(library, name), f"there is no {name}")
-    with tempfile.TemporaryDirectory() as folder:
-        source, older = pathlib.Path(folder, "older.c"), pathlib.Path(folder, "older.so")
-        source.write_text("".join(f"unsigned {name}(void) {{ return 0; }}\n" for name in OLD_NAMES + SAME_NAMES))
-        subprocess.run([os.environ.get("CC", "cc"), "-shared", "-fPIC", source, "-o", older], check=True)
-        out, err = imported(ROOT / "python", LINDENSCOOP_LIBRARY=str(older))
-        check(out == "" and f"ImportError: lindenscoop: {older} has no lindenscoop_read_numbers" in err, f"a library from before is taken: {out}{err}")
+    for names, missing in ((BEFORE_KINDS, "lindenscoop_read_numbers"), (RECORD_NAMES, "lindenscoop_full_year_raw")):
+        with tempfile.TemporaryDirectory() as folder:
+            source, older = pathlib.Path(folder, "older.c"), pathlib.Path(folder, "older.so")
+            source.write_text("".join(f"unsigned {name}(void) {{ return 0; }}\n" for name in names + SAME_NAMES + BEFORE_1980))
+            subprocess.run([os.environ.get("CC", "cc"), "-shared", "-fPIC", source, "-o", older], check=True)
+            out, err = imported(ROOT / "python", LINDENSCOOP_LIBRARY=str(older))
+            check(out == "" and f"ImportError: lindenscoop: {older} has no {missing}" in err, f"a library from before is taken: {out}{err}")
 
 
 def test_documentation():
@@ -663,13 +701,13 @@ def main():
     sys.dont_write_bytecode = True
     with tempfile.TemporaryDirectory() as folder:
         subprocess.run([ROOT / "python/make-shared.sh", folder], check=True, stdout=subprocess.DEVNULL)
-        made = pathlib.Path(folder, "liblindenscoop.so.0")
+        made = pathlib.Path(folder, "liblindenscoop.so.0.1")
         os.environ["LINDENSCOOP_LIBRARY"] = str(made)
         sys.path.insert(0, str(ROOT / "python"))
         ls = importlib.import_module("lindenscoop")
         for name, test in list(globals().items()):
             if name.startswith("test_"):
-                run(test, *([made] if name in ("test_how_the_library_is_found", "test_names_from_before_there_were_kinds") else []))
+                run(test, *([made] if name in ("test_how_the_library_is_found", "test_names_from_before") else []))
     print(f"{counts[True]} passed, {counts[False]} failed")
     return 1 if counts[False] or not counts[True] else 0
 

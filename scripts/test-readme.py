@@ -303,7 +303,7 @@ def main(words):
     text = (ROOT / "README.md").read_text(encoding="utf-8")
     with tempfile.TemporaryDirectory() as folder:
         subprocess.run([ROOT / "python/make-shared.sh", folder], check=True, stdout=subprocess.DEVNULL)
-        os.environ["LINDENSCOOP_LIBRARY"] = os.path.join(folder, "liblindenscoop.so.0")
+        os.environ["LINDENSCOOP_LIBRARY"] = os.path.join(folder, "liblindenscoop.so.0.1")
         sys.path.insert(0, str(ROOT / "python"))
         ls = importlib.import_module("lindenscoop")
         if words[1:]:

@@ -15,6 +15,7 @@ enum Cell {
     Degrees(i32),
     /// hundredths, of arc
     Minutes(i32),
+    /// the year with its century
     Date(u32, u32, u32),
     Time(u32, u32, u32),
     Fraction(Fraction),
@@ -55,7 +56,10 @@ fn cells(r: &Record) -> [Cell; COUNT] {
         place(r.position);
     let (date, day_of_year) = match r.date {
         None => (Cell::Absent, Cell::Absent),
-        Some(Date::Full { year, month, day }) => (Cell::Date(year, month, day), Cell::Absent),
+        Some(date @ Date::Full { month, day, .. }) => {
+            let full = cell(date.full_year(), |year| Cell::Date(year, month, day));
+            (full, Cell::Absent)
+        }
         Some(Date::DayOfYear(day)) => (Cell::Absent, Cell::Number(day)),
     };
     [
@@ -118,8 +122,8 @@ fn plain(out: &mut Vec<u8>, cell: Cell) {
         Cell::Degrees(value) => angle(out, value, 4),
         Cell::Minutes(value) => angle(out, value, 2),
         Cell::Date(year, month, day) => {
-            out.extend_from_slice(b"20");
-            out.extend_from_slice(&three([year, month, day], b'-'));
+            number(out, (year / 100).into(), 2);
+            out.extend_from_slice(&three([year % 100, month, day], b'-'));
         }
         Cell::Time(hour, minute, second) => {
             out.extend_from_slice(&three([hour, minute, second], b':'))

@@ -54,35 +54,27 @@ pub fn record(form: Form, now: SystemTime) -> Result<Record, Refusal> {
     })
 }
 
-/// 1 January 2000, from which the library counts, in days after 1 January 1970, from which this computer does.
-const CALENDAR_BEGINS: u64 = 10_957;
+/// 1 January 1980, from which the library counts, in days after 1 January 1970, from which this computer does.
+const CALENDAR_BEGINS: u64 = 3_652;
 
 /// The first day of each month of the library's calendar, with its number.
 fn first_days() -> impl Iterator<Item = (u32, u32, u32)> {
     (0..).map_while(|months| {
-        let (year, month) = (months / 12, months % 12 + 1);
-        let first = Date::Full {
-            year,
-            month,
-            day: 1,
-        };
-        Some((year, month, first.day_number()?))
+        let (year, month) = (1980 + months / 12, months % 12 + 1);
+        let first = Date::of_full_year(year, month, 1)?;
+        Some((year, month, first.days_since_1980()?))
     })
 }
 
-/// The date so many days after 1 January 1970, if it is of 2000 to 2099.
+/// The date so many days after 1 January 1970, if it is of 1980 to 2079.
 fn date(days: u64) -> Option<Date> {
     let number = u32::try_from(days.checked_sub(CALENDAR_BEGINS)?).ok()?;
     let (year, month, first) = first_days()
         .take_while(|(_, _, first)| *first <= number)
         .last()?;
-    let date = Date::Full {
-        year,
-        month,
-        day: number - first + 1,
-    };
+    let date = Date::of_full_year(year, month, number - first + 1)?;
     // behind the calendar's end the last month has no such day
-    (date.day_number() == Some(number)).then_some(date)
+    (date.days_since_1980() == Some(number)).then_some(date)
 }
 
 #[cfg(test)]
@@ -93,20 +85,22 @@ mod tests {
 
     #[test]
     fn dates() {
-        let full = |year, month, day| Some(Date::Full { year, month, day });
-        assert_eq!(date(10_956), None);
+        let full = |yy, month, day| Some(Date::Full { yy, month, day });
+        assert_eq!(date(3_651), None);
+        assert_eq!(date(3_652), full(80, 1, 1));
+        assert_eq!(date(3_711), full(80, 2, 29));
+        assert_eq!(date(10_956), full(99, 12, 31));
         assert_eq!(date(10_957), full(0, 1, 1));
-        assert_eq!(date(11_016), full(0, 2, 29));
         assert_eq!(date(20_000), full(24, 10, 4));
-        assert_eq!(date(47_481), full(99, 12, 31));
-        assert_eq!(date(47_482), None);
+        assert_eq!(date(40_176), full(79, 12, 31));
+        assert_eq!(date(40_177), None);
     }
 
     #[test]
     fn every_day_has_its_date() {
-        let numbers = (10_957..=47_481).map(|days| date(days).and_then(|date| date.day_number()));
+        let numbers = (3_652..=40_176).map(|days| date(days)?.days_since_1980());
         assert!(numbers.eq((0..36_525).map(Some)));
-        for days in [0, 1, 10_956, 47_483, 1 << 31, 1 << 32, (1 << 32) + 10_957] {
+        for days in [0, 1, 3_651, 40_178, 1 << 31, 1 << 32, (1 << 32) + 3_652] {
             assert_eq!(date(days), None);
         }
         assert_eq!(date(u64::MAX), None);
@@ -134,7 +128,7 @@ mod tests {
         assert_eq!(at(1_709_251_199).map(told), Ok((leap_day, [23, 59, 59])));
         let next = Date::of_full_year(2024, 3, 1);
         assert_eq!(at(1_709_251_200).map(told), Ok((next, [0, 0, 0])));
-        assert_eq!(at(946_684_799), Err(Refusal::BadRecord));
-        assert_eq!(at(4_102_444_800), Err(Refusal::BadRecord));
+        assert_eq!(at(315_532_799), Err(Refusal::BadRecord));
+        assert_eq!(at(3_471_292_800), Err(Refusal::BadRecord));
     }
 }

@@ -52,9 +52,10 @@ A field that was not sent is null in JSON and an empty cell in CSV, never 0.
                   or 1 to 7, 10 and 12
   --baud, --framing   where a file is a serial port, as for listen
 
-Dates are year-month-day, time is as the clock sent it, offset is hours:minutes of local
-time minus UTC, latitude and longitude are degrees, north and east positive, altitude is
-metres. A position that was sent in minutes, as by rmc, stands in latitude_minutes and
+Dates are year-month-day, with the year's century: 80 to 99 in a string mean 1980 to 1999,
+00 to 79 mean 2000 to 2079. The time is as the clock sent it, offset is hours:minutes of
+local time minus UTC, latitude and longitude are degrees, north and east positive, altitude
+is metres. A position that was sent in minutes, as by rmc, stands in latitude_minutes and
 longitude_minutes, in minutes of arc (2841.00 is 47 degrees 21 minutes), and is not turned
 into degrees. A fraction has 2, 3 or 7 digits, as it was sent. With several files each line
 begins with the file's name. `lindenscoop write` makes the strings of the JSON lines again.
@@ -91,11 +92,11 @@ frame and c37118 are one frame with two rules for its sign: 1 for an offset abov
 frame (IEEE 1344), below zero in c37118 (IEEE C37.118). A frame does not tell its rule.
 
 A key that is null or not there is an absent field; time must be there. place and file are
-passed over. A fraction and a position must be of the kind that the form carries: 2 digits
-and latitude_minutes, longitude_minutes for rmc; 3 digits for spa, 7 for capture; latitude,
-longitude, altitude for erlangen. None is turned into another. A line that is no record, or
-that the form cannot carry, is refused with its number and the reason, and the other lines
-are written.
+passed over. A date is of 1980 to 2079. A fraction and a position must be of the kind that
+the form carries: 2 digits and latitude_minutes, longitude_minutes for rmc; 3 digits for
+spa, 7 for capture; latitude, longitude, altitude for erlangen. None is turned into another.
+A line that is no record, or that the form cannot carry, is refused with its number and the
+reason, and the other lines are written.
 
   echo '{\"date\":\"2024-02-29\",\"time\":\"12:00:00\"}' | lindenscoop write racal
 

@@ -158,7 +158,7 @@ impl Layout {
     /// The date, whether there is such a one or not; None where the form has none.
     fn date(&self, window: &[u8]) -> Option<Date> {
         Some(Date::Full {
-            year: self.number(window, b'y')?,
+            yy: self.number(window, b'y')?,
             month: self.number(window, b'm')?,
             day: self.number(window, b'd')?,
         })
@@ -177,7 +177,7 @@ impl Layout {
         let range = match letter {
             b'd' => {
                 let date = self.date(window);
-                return date.is_some_and(|date| date.day_number().is_none());
+                return date.is_some_and(|date| date.days_since_1980().is_none());
             }
             b'n' => 0..=1,
             b'j' => 1..=366,

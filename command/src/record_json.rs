@@ -116,16 +116,12 @@ fn date(members: &Members) -> Result<Option<Date>, String> {
         (Some(_), Some(_)) => {
             Err("\"date\" and \"day_of_year\" are both there; one of them must be null".to_string())
         }
-        (Some(text), None) => match parts(text, [4, 2, 2], '-') {
-            Some([year @ 2000..=2099, month, day]) => Ok(Some(Date::Full {
-                year: year - 2000,
-                month,
-                day,
-            })),
-            _ => Err(format!(
-                "\"date\" must be as \"2024-02-29\", of 2000 to 2099, not \"{text}\""
-            )),
-        },
+        (Some(text), None) => parts(text, [4, 2, 2], '-')
+            .and_then(|[year, month, day]| Date::of_full_year(year, month, day))
+            .map(Some)
+            .ok_or_else(|| {
+                format!("\"date\" must be as \"2024-02-29\", of 1980 to 2079, not \"{text}\"")
+            }),
     }
 }
 

@@ -14,7 +14,7 @@ A field that was not in the string is None; a damaged string raises `Refused` wi
 given as `Form.RACAL`. The shared library is made by `python/make-shared.sh`; LINDENSCOOP_LIBRARY names another one.
 """
 from .codec import Found, read, search, write, write_into
-from .days import day_number
+from .days import days_since_1980
 from .form import Form
 from .listener import Listener, heard
 from .record import Date, DayOfYear, Fraction, Hundredths, Position, PositionInMinutes, Record
@@ -33,7 +33,7 @@ __all__ = [
     "Record",
     "Refusal",
     "Refused",
-    "day_number",
+    "days_since_1980",
     "heard",
     "read",
     "search",

@@ -1,4 +1,4 @@
-"""The days of the calendar, 2000 to 2099."""
+"""The days of the calendar, 1980 to 2079."""
 import ctypes
 from typing import Optional
 
@@ -7,16 +7,16 @@ from .library import LIBRARY
 from .record import Date
 
 
-def day_number(year: int, month: int, day: int) -> Optional[int]:
-    """The days from 1 January 2000 to a date; None where there is no such date of 2000 to 2099.
+def days_since_1980(year: int, month: int, day: int) -> Optional[int]:
+    """The days from 1 January 1980 to a date; None where there is no such date of 1980 to 2079.
 
-    >>> day_number(2000, 1, 1)
+    >>> days_since_1980(1980, 1, 1)
     0
-    >>> day_number(2024, 2, 29)
-    8825
-    >>> day_number(2023, 2, 29) is None
+    >>> days_since_1980(2024, 2, 29)
+    16130
+    >>> days_since_1980(2023, 2, 29) is None
     True
     """
-    number = ctypes.c_uint32()
-    answer = LIBRARY.lindenscoop_day_number_raw(*full_date(Date(year, month, day)), number)
-    return None if answer else number.value
+    days = ctypes.c_uint32()
+    answer = LIBRARY.lindenscoop_days_since_1980_raw(*full_date(Date(year, month, day)), days)
+    return None if answer else days.value

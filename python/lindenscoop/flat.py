@@ -1,7 +1,8 @@
 """A record as the 29 numbers in which it crosses to the library, in the order of the struct in lindenscoop.h."""
+import ctypes
 from typing import List, Optional, Sequence, Union
 
-from .library import OUTSIDE, crossing
+from .library import LIBRARY, OUTSIDE, crossing
 from .record import Date, DayOfYear, Fraction, Hundredths, Position, PositionInMinutes, Record
 
 FLAGS = ("sync", "fix", "utc", "summer", "change", "leap")
@@ -30,10 +31,19 @@ def _flag(value: Optional[bool], what: str) -> int:
     return 0 if value is None else 1 + value
 
 
+def _full_year(yy: int) -> int:
+    """The year with its century that two digits mean, as the library says."""
+    year = ctypes.c_uint32()
+    if LIBRARY.lindenscoop_full_year_raw(yy, year):
+        raise RuntimeError(f"the library has no year of the two digits {yy}")
+    return year.value
+
+
 def full_date(date: Date) -> List[int]:
-    """Year, month and day in which a date crosses; the year has lost its century."""
-    year = _whole(date.year, "year") - 2000
-    return [crossing(year), _number(date.month, "month"), _number(date.day, "day")]
+    """Two digits of the year, month and day in which a date crosses; a year that no two digits mean is handed over as OUTSIDE."""
+    year = _whole(date.year, "year")
+    yy = year % 100
+    return [yy if _full_year(yy) == year else OUTSIDE, _number(date.month, "month"), _number(date.day, "day")]
 
 
 def _date(date: Optional[Union[Date, DayOfYear]]) -> List[int]:
@@ -88,7 +98,7 @@ def _flag_of(number: int) -> Optional[bool]:
 def _date_of(n: Sequence[int]) -> Optional[Union[Date, DayOfYear]]:
     if n[3] == 0:
         return None
-    return Date(2000 + n[4], n[5], n[6]) if n[3] == 1 else DayOfYear(n[7])
+    return Date(_full_year(n[4]), n[5], n[6]) if n[3] == 1 else DayOfYear(n[7])
 
 
 def _fraction_of(n: Sequence[int]) -> Optional[Union[Fraction, Hundredths]]:

@@ -4,7 +4,7 @@ import os
 import pathlib
 from typing import List
 
-NAME = "liblindenscoop.so.0"
+NAME = "liblindenscoop.so.0.1"
 RECORD_NUMBERS = 29
 LISTENER_BYTES = 70
 LONGEST_STRING = 174
@@ -28,7 +28,8 @@ _FUNCTIONS = {
     "lindenscoop_search_numbers": [ctypes.c_uint32, ctypes.c_void_p, _size, _size, _place, _numbers, _size],
     "lindenscoop_start_raw": [ctypes.c_uint32, _state, _size],
     "lindenscoop_feed_all_numbers": [_state, _size, ctypes.c_void_p, _size, _place, _numbers, _size],
-    "lindenscoop_day_number_raw": [ctypes.c_uint32, ctypes.c_uint32, ctypes.c_uint32, _numbers],
+    "lindenscoop_full_year_raw": [ctypes.c_uint32, _numbers],
+    "lindenscoop_days_since_1980_raw": [ctypes.c_uint32, ctypes.c_uint32, ctypes.c_uint32, _numbers],
 }
 
 

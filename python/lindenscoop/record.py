@@ -5,7 +5,7 @@ from typing import Optional, Union
 
 @dataclasses.dataclass(frozen=True)
 class Date:
-    """A full date; `year` has its century, 2000 to 2099."""
+    """A full date; `year` has its century, 1980 to 2079: 80 to 99 in a string mean 1980 to 1999, 00 to 79 mean 2000 to 2079."""
 
     year: int
     month: int

@@ -5,7 +5,7 @@
 static inline uint8_t *put_date(uint8_t *o, const lindenscoop_record *r)
 {
     switch (r->date) {
-    case LINDENSCOOP_FULL_DATE: return put_three(o, r->year, r->month, r->day, '-');
+    case LINDENSCOOP_FULL_DATE: return put_three(o, r->yy, r->month, r->day, '-');
     case LINDENSCOOP_DAY_OF_YEAR: return put_digits(PUT_TEXT(o, "day-"), r->day_of_year, 3);
     default: return put_byte(o, '-');
     }

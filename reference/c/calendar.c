@@ -1,4 +1,4 @@
-/* The table of calendar.h, computed by the compiler: every fourth year from 2000 to 2099 is a leap year. */
+/* The table of calendar.h, computed by the compiler, y years after 1980: every fourth year from 1980 to 2079 is a leap year. */
 #include "calendar.h"
 
 #define JANUARY(y) (365 * (y) + ((y) + 3) / 4)

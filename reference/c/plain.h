@@ -1,5 +1,5 @@
 /*
- * The checks of document 01 and of document 02, W-201 and W-204, in plain C, written from these papers: the baseline for the speed of the
+ * The checks of document 01 and of document 02, W-201, W-204 and W-205, in plain C, written from these papers: the baseline for the speed of the
  * library.
  *
  * It takes the record and gives the answers of lindenscoop.h, so that both can be compared number by number and neither has to

@@ -21,7 +21,7 @@ static inline uint32_t yes_if(bool test)
 }
 
 typedef struct date {
-    uint32_t year, month, day;
+    uint32_t yy, month, day;
 } date;
 
 typedef struct daytime {
@@ -29,9 +29,9 @@ typedef struct daytime {
 } daytime;
 
 /* The numbers of two digits that stand at three places. */
-static inline date date_at(const uint8_t *s, int year, int month, int day)
+static inline date date_at(const uint8_t *s, int yy, int month, int day)
 {
-    return (date){number(s + year, 2), number(s + month, 2), number(s + day, 2)};
+    return (date){number(s + yy, 2), number(s + month, 2), number(s + day, 2)};
 }
 
 static inline daytime time_at(const uint8_t *s, int hour, int minute, int second)
@@ -46,7 +46,7 @@ static inline bool is_time(daytime t)
 
 static inline bool is_date(date d)
 {
-    return calendar_is_date(d.year, d.month, d.day);
+    return calendar_is_date(d.yy, d.month, d.day);
 }
 
 static inline bool is_weekday(uint32_t w)
@@ -56,7 +56,7 @@ static inline bool is_weekday(uint32_t w)
 
 static inline bool is_weekday_of(uint32_t w, date d)
 {
-    return w == calendar_weekday(d.year, d.month, d.day);
+    return w == calendar_weekday(d.yy, d.month, d.day);
 }
 
 /* A full date and a time, all else absent. */
@@ -64,7 +64,7 @@ static inline lindenscoop_record record_of(date d, daytime t)
 {
     return (lindenscoop_record){
         .hour = t.hour, .minute = t.minute, .second = t.second,
-        .date = LINDENSCOOP_FULL_DATE, .year = d.year, .month = d.month, .day = d.day,
+        .date = LINDENSCOOP_FULL_DATE, .yy = d.yy, .month = d.month, .day = d.day,
     };
 }
 

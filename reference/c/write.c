@@ -9,7 +9,7 @@ static inline bool is_good_date(const lindenscoop_record *r)
 {
     switch (r->date) {
     case LINDENSCOOP_ABSENT: return true;
-    case LINDENSCOOP_FULL_DATE: return calendar_is_date(r->year, r->month, r->day);
+    case LINDENSCOOP_FULL_DATE: return calendar_is_date(r->yy, r->month, r->day);
     case LINDENSCOOP_DAY_OF_YEAR: return 1 <= r->day_of_year && r->day_of_year <= 366;
     default: return false;
     }
@@ -94,12 +94,12 @@ static inline uint8_t longitude_letter(const lindenscoop_record *r)
 
 static inline uint8_t weekday_digit(const lindenscoop_record *r)
 {
-    return (uint8_t)('0' + calendar_weekday(r->year, r->month, r->day));
+    return (uint8_t)('0' + calendar_weekday(r->yy, r->month, r->day));
 }
 
 static void write_standard(const lindenscoop_record *r, uint8_t *o)
 {
-    o = put_three(PUT_TEXT(o, "\2D:"), r->day, r->month, r->year, '.');
+    o = put_three(PUT_TEXT(o, "\2D:"), r->day, r->month, r->yy, '.');
     o = put_byte(PUT_TEXT(o, ";T:"), weekday_digit(r));
     o = put_three(PUT_TEXT(o, ";U:"), r->hour, r->minute, r->second, '.');
     o[0] = ';';
@@ -113,7 +113,7 @@ static void write_standard(const lindenscoop_record *r, uint8_t *o)
 static void write_capture(const lindenscoop_record *r, uint8_t *o)
 {
     o = put_byte(put_digits(PUT_TEXT(o, "CH"), r->channel_number, 1), ' ');
-    o = put_byte(put_three(o, r->day, r->month, r->year, '.'), ' ');
+    o = put_byte(put_three(o, r->day, r->month, r->yy, '.'), ' ');
     o = put_byte(put_three(o, r->hour, r->minute, r->second, ':'), '.');
     PUT_TEXT(put_digits(o, r->fraction_units, 7), "\r\n");
 }
@@ -135,7 +135,7 @@ static inline uint8_t *put_degrees(uint8_t *o, uint32_t degrees, uint8_t letter)
 
 static void write_erlangen(const lindenscoop_record *r, uint8_t *o)
 {
-    o = put_three(put_byte(o, STX), r->day, r->month, r->year, '.');
+    o = put_three(put_byte(o, STX), r->day, r->month, r->yy, '.');
     o = put_byte(PUT_TEXT(o, "; "), weekday_digit(r));
     o = put_three(PUT_TEXT(o, "; "), r->hour, r->minute, r->second, ':');
     o = put_offset(PUT_TEXT(o, "; "), r->offset_negative, r->offset_minutes);
@@ -155,7 +155,7 @@ static void write_erlangen(const lindenscoop_record *r, uint8_t *o)
 
 static void write_spa(const lindenscoop_record *r, uint8_t *out)
 {
-    uint8_t *o = put_byte(put_three(PUT_TEXT(out, ">900WD:"), r->year, r->month, r->day, '-'), ' ');
+    uint8_t *o = put_byte(put_three(PUT_TEXT(out, ">900WD:"), r->yy, r->month, r->day, '-'), ' ');
     o = put_byte(put_digits(o, r->hour, 2), '.');
     o = put_byte(put_digits(o, r->minute, 2), ';');
     o = put_byte(put_digits(o, r->second, 2), '.');
@@ -171,21 +171,21 @@ static inline uint8_t *put_joined(uint8_t *o, uint32_t a, uint32_t b, uint32_t c
 
 static void write_racal(const lindenscoop_record *r, uint8_t *o)
 {
-    o = put_joined(PUT_TEXT(o, "XGU"), r->year, r->month, r->day);
+    o = put_joined(PUT_TEXT(o, "XGU"), r->yy, r->month, r->day);
     put_byte(put_joined(o, r->hour, r->minute, r->second), '\r');
 }
 
 static void write_sysplex(const lindenscoop_record *r, uint8_t *o)
 {
     const bool full_date = r->date == LINDENSCOOP_FULL_DATE;
-    o = put_digits(put_byte(o, SOH), full_date ? calendar_day_of_year(r->year, r->month, r->day) : r->day_of_year, 3);
+    o = put_digits(put_byte(o, SOH), full_date ? calendar_day_of_year(r->yy, r->month, r->day) : r->day_of_year, 3);
     o = put_three(put_byte(o, ':'), r->hour, r->minute, r->second, ':');
     PUT_TEXT(put_byte(o, letter_if(r->sync, ' ', '?')), "\r\n");
 }
 
 static void write_computime(const lindenscoop_record *r, uint8_t *o)
 {
-    o = put_three(PUT_TEXT(o, "T:"), r->year, r->month, r->day, ':');
+    o = put_three(PUT_TEXT(o, "T:"), r->yy, r->month, r->day, ':');
     o = put_byte(PUT_TEXT(o, ":0"), weekday_digit(r));
     o = put_three(put_byte(o, ':'), r->hour, r->minute, r->second, ':');
     PUT_TEXT(o, "\r\n");
@@ -198,7 +198,7 @@ static inline const char *zone_word(const lindenscoop_record *r)
 
 static void write_sat(const lindenscoop_record *r, uint8_t *o)
 {
-    o = put_three(put_byte(o, STX), r->day, r->month, r->year, '.');
+    o = put_three(put_byte(o, STX), r->day, r->month, r->yy, '.');
     o = put_byte(put_byte(put_byte(o, '/'), weekday_digit(r)), '/');
     o = put_bytes(put_three(o, r->hour, r->minute, r->second, ':'), zone_word(r), 4);
     o[0] = letter_if(r->sync, ' ', '#');
@@ -215,7 +215,7 @@ static void write_rmc(const lindenscoop_record *r, uint8_t *out)
     o = put_byte(put_byte(o, latitude_letter(r)), ',');
     o = put_byte(put_minutes(o, r->longitude_units, 3), ',');
     o = PUT_TEXT(put_byte(o, longitude_letter(r)), ",0.0,0.0,");
-    o = PUT_TEXT(put_joined(o, r->day, r->month, r->year), ",0.0,E*");
+    o = PUT_TEXT(put_joined(o, r->day, r->month, r->yy), ",0.0,E*");
     PUT_TEXT(put_hex(o, plain_rmc_sum(out)), "\r\n");
 }
 

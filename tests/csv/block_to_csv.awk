@@ -15,6 +15,11 @@ function minutes(text,    parts, whole) {
     return sign(text) (int(whole / 100) * 60 + whole % 100) "." parts[2]
 }
 
+# The library's rule for two digits, read here a second time and not asked of it.
+function century(yy) {
+    return yy >= 80 ? "19" : "20"
+}
+
 { value[$1] = $2 == "-" ? "" : $2 }
 
 END {
@@ -23,7 +28,7 @@ END {
         day = substr(date, 5) + 0
         date = ""
     } else if (date != "") {
-        date = "20" date
+        date = century(substr(date, 1, 2) + 0) date
     }
     if (value["fraction"] != "")
         fraction = "0." value["fraction"]

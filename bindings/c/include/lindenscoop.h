@@ -8,18 +8,19 @@
  * There are two layers. The exported functions, whose contracts are proved, take each buffer as a pointer and a length, in
  * elements: lindenscoop_..._numbers a record as its 29 numbers, lindenscoop_..._raw no record. crates/lindenscoop/specs defines
  * what they answer, the comments here say it in words. Over them stands what a C program calls: lindenscoop_read and so on,
- * which take the structs below, lindenscoop_day_number, which takes a year with its century, and lindenscoop_get_offset and so
- * on, which say whether a field of a record is there and hand out its value. A flag of no is stored as 1 and the number of an
- * absent field as 0, so `if (record.sync)` and a bare `record.offset_minutes` would mislead.
+ * which take the structs below, lindenscoop_full_year and lindenscoop_days_since_1980, for years with their century, and
+ * lindenscoop_get_offset and so on, which say whether a field of a record is there and hand out its value. A flag of no is stored
+ * as 1 and the number of an absent field as 0, so `if (record.sync)` and a bare `record.offset_minutes` would mislead.
  *
  * Until form 12 came, those that take a record were named ..._raw too. A fraction and a position had fewer kinds then, and code
  * that tests number 21 for "not 0" alone would read minutes of arc as degrees. By the old names it does not link, and what was
  * linked before does not run. Code that calls them by the new ones looks at the kinds first: at number 8, counted from 0, that of
- * the fraction, before number 9, and at number 21, that of the position, before numbers 22 to 26.
+ * the fraction, before number 9, and at number 21, that of the position, before numbers 22 to 26. Number 4, the two digits of a
+ * year, it hands to lindenscoop_full_year_raw.
  *
  * What the exported functions ask of their caller, and nothing else:
  *   - a pointer is not null, also where the length behind it is 0, and is aligned for its type;
- *   - behind it stand as many elements as the length says, and one where it has no length: a size_t *, and number;
+ *   - behind it stand as many elements as the length says, and one where it has no length: a size_t *, year and days;
  *   - what stands behind a pointer that is not const overlaps no other argument.
  * Every value and every length, 0 included, is answered.
  *
@@ -30,11 +31,11 @@
  *   - a call that is refused otherwise leaves every buffer as it was, but for these: a refused read or search stores
  *     the empty record, a start that is refused with 1 stores a state that answers every byte with 11, and 13 moves
  *     the listener on;
- *   - a size_t and *number are stored by every call. *written, *place and *number are 0 after every refusal. *used is
+ *   - a size_t, *year and *days are stored by every call. *written, *place, *year and *days are 0 after every refusal. *used is
  *     how many bytes were fed, a refused one included, and 0 after LINDENSCOOP_SHORT_BUFFER.
  *
  * What the functions over the structs ask: the same, except that a pointer to bytes may be null where its length is 0.
- * Pointers to structs, to size_t and to days are not null.
+ * Pointers to structs, to size_t, to year and to days are not null.
  */
 #ifndef LINDENSCOOP_H
 #define LINDENSCOOP_H
@@ -46,7 +47,7 @@
 #include <stdbool.h>
 #endif
 
-/* The version of this header. The first number is that of the shared library, liblindenscoop.so.0. */
+/* The version of this header. Its first two numbers are those of the shared library, liblindenscoop.so.0.1. */
 #define LINDENSCOOP_VERSION "0.1.0"
 
 #ifdef __cplusplus
@@ -127,13 +128,16 @@ enum { LINDENSCOOP_STATE_VERSION = 1 };
  * that uses the old names does not compile any more, so that no minute is read as a degree, and no altitude that was not sent as
  * 0. It asks by lindenscoop_get_fraction and lindenscoop_get_position, which are as they were and answer false for the kinds that
  * came with form 12, and by lindenscoop_get_hundredths and lindenscoop_get_position_minutes, which answer for these alone.
+ *
+ * yy was named year as long as all of 0..99 meant 2000 and later. Code that adds 2000 to it would tell 2091 for 1991, so by the old
+ * name it does not compile any more; it calls lindenscoop_get_date, or lindenscoop_full_year where it has the two digits alone.
  */
 typedef struct lindenscoop_record {
     uint32_t hour;                    /* 0..23 */
     uint32_t minute;                  /* 0..59 */
     uint32_t second;                  /* 0..60 */
     uint32_t date;                    /* ABSENT, FULL_DATE, DAY_OF_YEAR */
-    uint32_t year;                    /* 0..99, meaning 2000 and later */
+    uint32_t yy;                      /* 0..99: 80..99 mean 1980 to 1999, 0..79 mean 2000 to 2079 */
     uint32_t month;
     uint32_t day;
     uint32_t day_of_year;             /* 1..366 */
@@ -175,7 +179,7 @@ typedef struct lindenscoop_listener {
 LINDENSCOOP_ASSERT(record_has_no_padding, sizeof(lindenscoop_record) == LINDENSCOOP_RECORD_NUMBERS * sizeof(uint32_t));
 LINDENSCOOP_ASSERT(listener_has_no_padding, sizeof(lindenscoop_listener) == LINDENSCOOP_LISTENER_BYTES);
 LINDENSCOOP_AT(hour, 0); LINDENSCOOP_AT(minute, 1); LINDENSCOOP_AT(second, 2); LINDENSCOOP_AT(date, 3);
-LINDENSCOOP_AT(year, 4); LINDENSCOOP_AT(month, 5); LINDENSCOOP_AT(day, 6); LINDENSCOOP_AT(day_of_year, 7);
+LINDENSCOOP_AT(yy, 4); LINDENSCOOP_AT(month, 5); LINDENSCOOP_AT(day, 6); LINDENSCOOP_AT(day_of_year, 7);
 LINDENSCOOP_AT(fraction, 8); LINDENSCOOP_AT(fraction_units, 9); LINDENSCOOP_AT(channel, 10);
 LINDENSCOOP_AT(channel_number, 11); LINDENSCOOP_AT(sync, 12); LINDENSCOOP_AT(fix, 13); LINDENSCOOP_AT(utc, 14);
 LINDENSCOOP_AT(summer, 15); LINDENSCOOP_AT(change, 16); LINDENSCOOP_AT(leap, 17); LINDENSCOOP_AT(offset, 18);
@@ -228,9 +232,13 @@ LINDENSCOOP_NOT_NULL uint32_t lindenscoop_feed_all_numbers(uint8_t *state, size_
    1: the form is not serial. 10: marks_length is below bytes_length. Tested in this order; neither changes a mark. */
 LINDENSCOOP_NOT_NULL uint32_t lindenscoop_mark_raw(uint32_t form, const uint8_t *bytes, size_t bytes_length, uint8_t *marks, size_t marks_length);
 
-/* The days from 1 January 2000 to a date, in *number: 0 for that day itself. The year is 0..99, meaning 2000 and later.
-   4: there is no such date (a year above 99, a month that is none, a day that the month does not have); *number is 0. */
-LINDENSCOOP_NOT_NULL uint32_t lindenscoop_day_number_raw(uint32_t year, uint32_t month, uint32_t day, uint32_t *number);
+/* The year with its century that two digits mean, in *year: 80..99 mean 1980 to 1999, 0..79 mean 2000 to 2079.
+   4: yy is above 99; *year is 0. */
+LINDENSCOOP_NOT_NULL uint32_t lindenscoop_full_year_raw(uint32_t yy, uint32_t *year);
+
+/* The days from 1 January 1980 to a date, in *days: 0 for that day itself, 36524 for 31 December 2079.
+   4: there is no such date (a yy above 99, a month that is none, a day that the month does not have); *days is 0. */
+LINDENSCOOP_NOT_NULL uint32_t lindenscoop_days_since_1980_raw(uint32_t yy, uint32_t month, uint32_t day, uint32_t *days);
 #undef LINDENSCOOP_NOT_NULL
 
 #ifdef __cplusplus
@@ -243,6 +251,13 @@ LINDENSCOOP_NOT_NULL uint32_t lindenscoop_day_number_raw(uint32_t year, uint32_t
 #define LINDENSCOOP_CAST(type, value) static_cast<type>(value)
 #else
 #define LINDENSCOOP_CAST(type, value) ((type)(value))
+#endif
+
+/* An answer that must be looked at: where it is false, the pointers were given nothing. */
+#ifdef __GNUC__
+#define LINDENSCOOP_MUST_CHECK __attribute__((warn_unused_result))
+#else
+#define LINDENSCOOP_MUST_CHECK
 #endif
 
 /* A pointer that is not null, for the exported functions. */
@@ -306,12 +321,29 @@ static inline uint32_t lindenscoop_mark(uint32_t form, const void *bytes, size_t
     return lindenscoop_mark_raw(form, lindenscoop_bytes(bytes), length, marks ? marks : &none, marks_length);
 }
 
-/* The days from 1 January 2000 to a date of 2000 to 2099. *days is 0 for that day itself and where there is no such date, so
-   the answer, LINDENSCOOP_OK or LINDENSCOOP_OUT_OF_RANGE, must be looked at. */
-static inline uint32_t lindenscoop_day_number(uint32_t year, uint32_t month, uint32_t day, uint32_t *days)
+/* The year with its century that two digits mean, 1980 to 2079. False for a yy above 99, and nothing is stored. */
+static inline LINDENSCOOP_MUST_CHECK bool lindenscoop_full_year(uint32_t yy, uint32_t *year)
 {
-    /* A year before 2000 wraps round to one far above 99. */
-    return lindenscoop_day_number_raw(year - 2000, month, day, days);
+    uint32_t meant = 0;
+    if (lindenscoop_full_year_raw(yy, &meant) != LINDENSCOOP_OK)
+        return false;
+    *year = meant;
+    return true;
+}
+
+/* The two digits of a year of 1980 to 2079; for every other year a number above 99, which no date has. */
+static inline uint32_t lindenscoop_two_digits(uint32_t year)
+{
+    uint32_t meant = 0;
+    return lindenscoop_full_year(year % 100, &meant) && meant == year ? year % 100 : 0xffffffffu;
+}
+
+/* The days from 1 January 1980 to a date of 1980 to 2079. *days is 0 for that day itself and where there is no such date, so
+   the answer, LINDENSCOOP_OK or LINDENSCOOP_OUT_OF_RANGE, must be looked at. lindenscoop_day_number, which is gone, counted from
+   1 January 2000, which is day 7305 now. */
+static inline uint32_t lindenscoop_days_since_1980(uint32_t year, uint32_t month, uint32_t day, uint32_t *days)
+{
+    return lindenscoop_days_since_1980_raw(lindenscoop_two_digits(year), month, day, days);
 }
 
 /* What an answer means. The texts of the refusals are those of README.md, "What a refusal means". */
@@ -360,29 +392,21 @@ static inline const char *lindenscoop_message(uint32_t answer)
  * lindenscoop_set_NAME makes the field present; whether the value is one that a record may have is for lindenscoop_write to say.
  */
 
-/* The answer of a get must be looked at: where it is false, the pointers were given nothing. */
-#ifdef __GNUC__
-#define LINDENSCOOP_MUST_CHECK __attribute__((warn_unused_result))
-#else
-#define LINDENSCOOP_MUST_CHECK
-#endif
-
-/* Year 2000 and later, month, day. False for a day of year alone. */
+/* The year with its century, 1980 to 2079, month, day. False for a day of year alone. */
 static inline LINDENSCOOP_MUST_CHECK bool lindenscoop_get_date(const lindenscoop_record *record, uint32_t *year, uint32_t *month, uint32_t *day)
 {
-    if (record->date != LINDENSCOOP_FULL_DATE || record->year > 99)
+    if (record->date != LINDENSCOOP_FULL_DATE || !lindenscoop_full_year(record->yy, year))
         return false;
-    *year = 2000 + record->year;
     *month = record->month;
     *day = record->day;
     return true;
 }
 
-/* A year before 2000 or after 2099 makes a record that lindenscoop_write refuses. */
+/* A year before 1980 or after 2079 makes a record that lindenscoop_write refuses. */
 static inline void lindenscoop_set_date(lindenscoop_record *record, uint32_t year, uint32_t month, uint32_t day)
 {
     record->date = LINDENSCOOP_FULL_DATE;
-    record->year = year - 2000;
+    record->yy = lindenscoop_two_digits(year);
     record->month = month;
     record->day = day;
 }

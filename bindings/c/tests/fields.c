@@ -127,7 +127,7 @@ static void check_signs(void)
     CHECK(lindenscoop_get_position(&r, &x, &y, &c) && x == -0x7fffffff && y == 1 && c == 431);
     r.offset_negative = r.south = 2;
     CHECK(!lindenscoop_get_offset(&r, &y) && !lindenscoop_get_position(&r, &y, &y, &c) && y == 1);
-    r.year = 100;
+    r.yy = 100;
     CHECK(!lindenscoop_get_date(&r, &c, &c, &c) && c == 431);
     lindenscoop_set_offset(&r, INT32_MIN);
     CHECK(r.offset_negative == 1 && r.offset_minutes == 0x80000000u && !lindenscoop_get_offset(&r, &y));
@@ -154,8 +154,54 @@ static void check_set(const char *block, bool full)
     CHECK(lindenscoop_write(LINDENSCOOP_BLOCK, &r, out, sizeof out, &written) == LINDENSCOOP_OK);
     out[written] = '\0';
     CHECK(strcmp(out, block) == 0);
-    lindenscoop_set_date(&r, 1999, 12, 31);
-    CHECK(lindenscoop_write(LINDENSCOOP_BLOCK, &r, out, sizeof out, &written) == LINDENSCOOP_BAD_RECORD);
+}
+
+/* A year of 1980 to 2079 is set, written as its two digits and got again with its century; of any other year no string is written. */
+static void check_years(void)
+{
+    static const uint32_t none[] = {0, 24, 80, 99, 1879, 1979, 2080, 2099, 2179, 0xffffffffu};
+    char out[17] = "", expected[17];
+    size_t written = 0;
+    uint32_t year = 77, month = 77, day = 77;
+    lindenscoop_record r = record_of(absent);
+    for (uint32_t set = 1980; set <= 2079; set++) {
+        const unsigned yy = set < 2000 ? set - 1900 : set - 2000;
+        snprintf(expected, sizeof expected, "XGU%02u0630000000\r", yy);
+        lindenscoop_set_date(&r, set, 6, 30);
+        CHECK(r.yy == yy && lindenscoop_two_digits(set) == yy && lindenscoop_full_year(yy, &year) && year == set);
+        CHECK(lindenscoop_write(LINDENSCOOP_RACAL, &r, out, 16, &written) == LINDENSCOOP_OK && strcmp(out, expected) == 0);
+        CHECK(lindenscoop_get_date(&r, &year, &month, &day) && year == set && month == 6 && day == 30);
+    }
+    for (size_t i = 0; i < sizeof none / sizeof *none; i++) {
+        lindenscoop_set_date(&r, none[i], 6, 30);
+        CHECK(r.yy > 99 && lindenscoop_two_digits(none[i]) > 99 && !lindenscoop_get_date(&r, &year, &month, &day) && year == 2079);
+        CHECK(lindenscoop_write(LINDENSCOOP_RACAL, &r, out, 16, &written) == LINDENSCOOP_BAD_RECORD);
+    }
+}
+
+/* There is a year of two digits and of no other number; where there is none, the exported function stores 0 and the other one nothing. */
+static void check_no_year(void)
+{
+    static const uint32_t none[] = {100, 180, 1980, 1991, 2000, 2079, 0x80000000u, 0xffffffffu};
+    for (size_t i = 0; i < sizeof none / sizeof *none; i++) {
+        uint32_t year = 77, number = 77;
+        CHECK(!lindenscoop_full_year(none[i], &year) && year == 77);
+        CHECK(lindenscoop_full_year_raw(none[i], &number) == LINDENSCOOP_OUT_OF_RANGE && number == 0);
+    }
+}
+
+/* A string of 1991 with its weekday, a Tuesday, tells 1991 and is written back to the same bytes; with that of 2091, a Monday, it is refused. */
+static void check_nineties(void)
+{
+    static const char tuesday[] = "\x02" "D:01.01.91;T:2;U:12.00.00;  U \x03", monday[] = "\x02" "D:01.01.91;T:1;U:12.00.00;  U \x03";
+    char out[32];
+    lindenscoop_record r;
+    size_t written = 0;
+    uint32_t year = 77, month = 77, day = 77;
+    CHECK(lindenscoop_read(LINDENSCOOP_STANDARD, tuesday, 32, &r) == LINDENSCOOP_OK && r.yy == 91);
+    CHECK(lindenscoop_get_date(&r, &year, &month, &day) && year == 1991 && month == 1 && day == 1);
+    CHECK(lindenscoop_write(LINDENSCOOP_STANDARD, &r, out, sizeof out, &written) == LINDENSCOOP_OK && memcmp(out, tuesday, sizeof out) == 0);
+    CHECK(lindenscoop_read(LINDENSCOOP_STANDARD, monday, 32, &r) == LINDENSCOOP_DISAGREEMENT);
 }
 
 /* A refused read or search stores the empty record; a listener stores a record where it hands one out, and only there. */
@@ -347,31 +393,39 @@ static void check_frames_refused(void)
 static void check_day(uint32_t year, uint32_t month, uint32_t day, uint32_t expected)
 {
     uint32_t days = 77, number = 77;
-    CHECK(lindenscoop_day_number(year, month, day, &days) == LINDENSCOOP_OK && days == expected);
-    CHECK(lindenscoop_day_number_raw(year - 2000, month, day, &number) == LINDENSCOOP_OK && number == expected);
+    CHECK(lindenscoop_days_since_1980(year, month, day, &days) == LINDENSCOOP_OK && days == expected);
+    CHECK(lindenscoop_days_since_1980_raw(year % 100, month, day, &number) == LINDENSCOOP_OK && number == expected);
 }
 
 static void check_no_day(uint32_t year, uint32_t month, uint32_t day)
 {
-    uint32_t days = 77, number = 77;
-    CHECK(lindenscoop_day_number(year, month, day, &days) == LINDENSCOOP_OUT_OF_RANGE && days == 0);
-    CHECK(lindenscoop_day_number_raw(year - 2000, month, day, &number) == LINDENSCOOP_OUT_OF_RANGE && number == 0);
+    uint32_t days = 77;
+    CHECK(lindenscoop_days_since_1980(year, month, day, &days) == LINDENSCOOP_OUT_OF_RANGE && days == 0);
+}
+
+/* By two digits; those of a year with its century are none. */
+static void check_no_day_raw(uint32_t yy, uint32_t month, uint32_t day)
+{
+    uint32_t number = 77;
+    CHECK(lindenscoop_days_since_1980_raw(yy, month, day, &number) == LINDENSCOOP_OUT_OF_RANGE && number == 0);
 }
 
 static void check_days(void)
 {
     static const uint32_t none[] = {0, 32, 100, 0x80000000u, 0xffffffffu};
-    static const uint32_t years[] = {0, 24, 99, 1900, 1999, 2100, 2400, 4000, 0x800007d0u, 0xffffffffu};
-    uint32_t number = 77;
-    check_day(2000, 1, 1, 0);
-    check_day(2000, 2, 29, 59);
-    check_day(2000, 12, 31, 365);
-    check_day(2001, 1, 1, 366);
-    check_day(2024, 2, 29, 8825);
-    check_day(2099, 12, 31, 36524);
+    static const uint32_t years[] = {0, 24, 80, 99, 1900, 1979, 2080, 2099, 2100, 2400, 4000, 0x800007d0u, 0xffffffffu};
+    check_day(1980, 1, 1, 0);
+    check_day(1980, 2, 29, 59);
+    check_day(1980, 12, 31, 365);
+    check_day(1981, 1, 1, 366);
+    check_day(1999, 12, 31, 7304);
+    check_day(2000, 1, 1, 7305);
+    check_day(2024, 2, 29, 16130);
+    check_day(2079, 12, 31, 36524);
+    check_no_day(1991, 2, 29);
     check_no_day(2023, 2, 29);
     check_no_day(2024, 2, 30);
-    check_no_day(2099, 4, 31);
+    check_no_day(2079, 4, 31);
     check_no_day(2024, 13, 1);
     for (size_t i = 0; i < sizeof none / sizeof *none; i++) {
         check_no_day(2024, none[i], 1);
@@ -379,29 +433,33 @@ static void check_days(void)
     }
     for (size_t i = 0; i < sizeof years / sizeof *years; i++)
         check_no_day(years[i], 1, 1);
-    CHECK(lindenscoop_day_number_raw(2024, 1, 1, &number) == LINDENSCOOP_OUT_OF_RANGE && number == 0);
+    check_no_day_raw(100, 1, 1);
+    check_no_day_raw(1991, 1, 1);
+    check_no_day_raw(2024, 1, 1);
+    check_no_day_raw(91, 2, 29);
+    check_no_day_raw(0xffffffffu, 1, 1);
 }
 
 /* The number of every date of the calendar is one more than that of the date before, and between two dates of the C library's own
    calendar, gmtime, there is none. */
 static void check_every_day(void)
 {
-    const time_t first = 946684800; /* 1 January 2000 */
+    const time_t first = 315532800; /* 1 January 1980 */
     const struct tm *next = gmtime(&first);
     uint32_t count = 0;
-    for (uint32_t year = 2000; year <= 2099; year++)
+    for (uint32_t year = 1980; year <= 2079; year++)
         for (uint32_t month = 0; month <= 13; month++)
             for (uint32_t day = 0; day <= 32; day++) {
                 bool exists = next->tm_year + 1900L == year && next->tm_mon + 1L == month && next->tm_mday + 0L == day;
                 uint32_t days = 77;
-                CHECK(lindenscoop_day_number(year, month, day, &days) == (exists ? LINDENSCOOP_OK : LINDENSCOOP_OUT_OF_RANGE));
+                CHECK(lindenscoop_days_since_1980(year, month, day, &days) == (exists ? LINDENSCOOP_OK : LINDENSCOOP_OUT_OF_RANGE));
                 CHECK(days == (exists ? count : 0u));
                 if (exists) {
                     const time_t at = first + 86400L * ++count;
                     next = gmtime(&at);
                 }
             }
-    CHECK(next->tm_year == 200 && next->tm_mon == 0 && next->tm_mday == 1);
+    CHECK(next->tm_year == 180 && next->tm_mon == 0 && next->tm_mday == 1);
 }
 
 int main(void)
@@ -415,6 +473,9 @@ int main(void)
     check_signs();
     check_set(whole, true);
     check_set(other, false);
+    check_years();
+    check_no_year();
+    check_nineties();
     check_stored();
     check_versions();
     check_sat();

@@ -117,7 +117,7 @@ static void random_record(lindenscoop_record *r)
     r->minute = draw(60);
     r->second = sometimes(draw(61), 61);
     r->date = sometimes(1 + draw(2), draw(5));
-    r->year = draw(100);
+    r->yy = draw(100);
     r->month = sometimes(1 + draw(12), draw(14));
     r->day = 1 + draw(28 + !draw(20) * 4);
     r->day_of_year = 1 + draw(366);
@@ -401,23 +401,33 @@ static void call_mark(void)
 }
 
 /* A date has a number where a string can be written of it, and the day behind it in its month has the next one */
-static void call_day_number(void)
+static void call_days_since_1980(void)
 {
     lindenscoop_record r;
     uint8_t out[LINDENSCOOP_LONGEST_STRING];
     size_t written = 0;
-    uint32_t next = 77;
+    uint32_t next = 77, year = 77;
     memset(&r, 0, sizeof r);
     r.date = LINDENSCOOP_FULL_DATE;
-    r.year = sometimes(draw(100), draw(2) ? 100 + draw(2000) : 0xffffffffu - draw(3));
+    r.yy = sometimes(draw(100), draw(2) ? 100 + draw(2000) : 0xffffffffu - draw(3));
     r.month = sometimes(1 + draw(12), draw(2) ? draw(14) : 0xffffffffu - draw(3));
     r.day = sometimes(draw(34), 0xffffffffu - draw(3));
     uint32_t *number = lend(0, NULL, sizeof *number);
-    uint32_t answer = seen(lindenscoop_day_number_raw(r.year, r.month, r.day, number));
+    uint32_t answer = seen(lindenscoop_days_since_1980_raw(r.yy, r.month, r.day, number));
     CHECK(answer == (lindenscoop_write(LINDENSCOOP_BLOCK, &r, out, sizeof out, &written) == LINDENSCOOP_OK ? 0u : 4u));
     CHECK(answer == 0 || *number == 0);
-    if (answer == 0 && lindenscoop_day_number(2000 + r.year, r.month, r.day + 1, &next) == LINDENSCOOP_OK)
+    if (answer == 0 && lindenscoop_full_year(r.yy, &year) && lindenscoop_days_since_1980(year, r.month, r.day + 1, &next) == LINDENSCOOP_OK)
         CHECK(next == *number + 1);
+}
+
+/* Two digits have a year of the hundred from 1980 on that ends in them; no other number has one */
+static void call_full_year(void)
+{
+    uint32_t yy = sometimes(draw(100), draw(2) ? 100 + draw(2000) : 0xffffffffu - draw(3));
+    uint32_t *year = lend(0, NULL, sizeof *year);
+    uint32_t answer = seen(lindenscoop_full_year_raw(yy, year));
+    CHECK(answer == (yy < 100 ? 0u : 4u));
+    CHECK(answer == 0 ? 1980 <= *year && *year <= 2079 && *year % 100 == yy : *year == 0);
 }
 
 /* Null with length 0, where the header allows it */
@@ -437,7 +447,7 @@ static void call_with_null(void)
 
 int main(int argc, char **argv)
 {
-    static void (*const all[])(void) = {call_read, call_write, call_search, call_start, call_feed, call_feed_byte, call_overlap, call_mark, call_day_number, call_with_null};
+    static void (*const all[])(void) = {call_read, call_write, call_search, call_start, call_feed, call_feed_byte, call_overlap, call_mark, call_days_since_1980, call_full_year, call_with_null};
     unsigned long long most = argc > 2 ? strtoull(argv[2], NULL, 10) : 200000;
     if (argc > 1)
         seed = strtoull(argv[1], NULL, 10);

@@ -1,7 +1,7 @@
 /*
  * How much stack each exported function touches: each call runs on a stack of its own, which is painted before and looked at after.
  * Reads lines "FORM HEX" of strings on standard input; reads, writes, searches, feeds and marks each, whole and with each byte damaged,
- * and numbers the day of what was read.
+ * and tells the year and counts the days of what was read.
  * Prints a line for each function: its name and the bytes touched, return address included.
  */
 #define _XOPEN_SOURCE 700
@@ -19,7 +19,7 @@ static ucontext_t here, there;
 static uint32_t form;
 static uint8_t input[4096], out[4096], state[LINDENSCOOP_LISTENER_BYTES];
 static size_t length, number;
-static uint32_t numbers[LINDENSCOOP_RECORD_NUMBERS], days;
+static uint32_t numbers[LINDENSCOOP_RECORD_NUMBERS], year, days;
 
 static void call_nothing(void) {}
 static void call_read(void) { lindenscoop_read_numbers(form, input, length, numbers, 29); }
@@ -29,7 +29,8 @@ static void call_start(void) { lindenscoop_start_raw(form, state, sizeof state);
 static void call_feed(void) { lindenscoop_feed_numbers(state, sizeof state, input[number], numbers, 29); }
 static void call_feed_all(void) { lindenscoop_feed_all_numbers(state, sizeof state, input, length, &number, numbers, 29); }
 static void call_mark(void) { lindenscoop_mark_raw(form, input, length, out, sizeof out); }
-static void call_day_number(void) { lindenscoop_day_number_raw(numbers[4], numbers[5], numbers[6], &days); }
+static void call_full_year(void) { lindenscoop_full_year_raw(numbers[4], &year); }
+static void call_days_since_1980(void) { lindenscoop_days_since_1980_raw(numbers[4], numbers[5], numbers[6], &days); }
 
 static struct way {
     const char *name;
@@ -37,8 +38,8 @@ static struct way {
     size_t most;
 } ways[] = {{"nothing", call_nothing, 0}, {"read", call_read, 0},   {"write", call_write, 0},       {"search", call_search, 0},
             {"start", call_start, 0},     {"feed", call_feed, 0},   {"feed_all", call_feed_all, 0}, {"mark", call_mark, 0},
-            {"day_number", call_day_number, 0}};
-enum { NOTHING, READ, WRITE, SEARCH, START, FEED, FEED_ALL, MARK, DAY_NUMBER, WAYS };
+            {"full_year", call_full_year, 0}, {"days_since_1980", call_days_since_1980, 0}};
+enum { NOTHING, READ, WRITE, SEARCH, START, FEED, FEED_ALL, MARK, FULL_YEAR, DAYS_SINCE_1980, WAYS };
 
 static void run(int which)
 {
@@ -61,7 +62,8 @@ static void run_all(void)
 {
     run(NOTHING);
     run(READ);
-    run(DAY_NUMBER);
+    run(FULL_YEAR);
+    run(DAYS_SINCE_1980);
     run(WRITE);
     for (form = 1; form <= 12; form++)
         run(WRITE);

@@ -21,7 +21,7 @@ pub fn read(form: Form, input: &[u8]) -> Result<Record, Refusal> {
 /// ```
 /// use lindenscoop::{write, Date, Form, Record, Refusal};
 ///
-/// let record = Record { date: Some(Date::Full { year: 24, month: 1, day: 1 }), hour: 12, ..Record::default() };
+/// let record = Record { date: Some(Date::Full { yy: 24, month: 1, day: 1 }), hour: 12, ..Record::default() };
 /// let mut buffer = [0; 16];
 /// assert_eq!(write(Form::RACAL, &record, &mut buffer), Ok(16));
 /// assert_eq!(&buffer, b"XGU240101120000\r");

@@ -61,7 +61,8 @@ extern "C" {
         marks: *mut u8,
         marks_length: usize,
     ) -> u32;
-    fn lindenscoop_day_number_raw(year: u32, month: u32, day: u32, number: *mut u32) -> u32;
+    fn lindenscoop_full_year_raw(yy: u32, year: *mut u32) -> u32;
+    fn lindenscoop_days_since_1980_raw(yy: u32, month: u32, day: u32, days: *mut u32) -> u32;
 }
 
 pub fn read(form: u32, input: &[u8]) -> (u32, FlatRecord) {
@@ -155,8 +156,14 @@ pub fn mark(form: u32, bytes: &[u8], marks: &mut [u8]) -> u32 {
     }
 }
 
-pub fn day_number(year: u32, month: u32, day: u32) -> (u32, u32) {
+pub fn full_year(yy: u32) -> (u32, u32) {
+    let mut year = 0;
+    let number = unsafe { lindenscoop_full_year_raw(yy, &mut year) };
+    (number, year)
+}
+
+pub fn days_since_1980(yy: u32, month: u32, day: u32) -> (u32, u32) {
     let mut days = 0;
-    let number = unsafe { lindenscoop_day_number_raw(year, month, day, &mut days) };
+    let number = unsafe { lindenscoop_days_since_1980_raw(yy, month, day, &mut days) };
     (number, days)
 }

@@ -90,9 +90,7 @@ impl Record {
         [n[0], n[1], n[2]] = [self.hour, self.minute, self.second];
         match self.date {
             None => {}
-            Some(Date::Full { year, month, day }) => {
-                [n[3], n[4], n[5], n[6]] = [1, year, month, day]
-            }
+            Some(Date::Full { yy, month, day }) => [n[3], n[4], n[5], n[6]] = [1, yy, month, day],
             Some(Date::DayOfYear(day)) => [n[3], n[7]] = [2, day],
         }
         [n[8], n[9]] = fraction_numbers(self.fraction);
@@ -127,7 +125,7 @@ impl Record {
             date: match n[3] {
                 0 => None,
                 1 => Some(Date::Full {
-                    year: n[4],
+                    yy: n[4],
                     month: n[5],
                     day: n[6],
                 }),

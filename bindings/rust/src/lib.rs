@@ -6,7 +6,7 @@
 //! use lindenscoop::{read, Date, Form, Refusal};
 //!
 //! let record = read(Form::RACAL, b"XGU000229000000\r").unwrap();
-//! assert_eq!(record.date, Some(Date::Full { year: 0, month: 2, day: 29 }));
+//! assert_eq!(record.date, Date::of_full_year(2000, 2, 29));
 //! assert_eq!(record.sync, None);
 //!
 //! assert_eq!(read(Form::RACAL, b"XGU000230000000\r"), Err(Refusal::OutOfRange));

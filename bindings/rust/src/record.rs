@@ -3,53 +3,78 @@
 use crate::ffi;
 
 /// A date: whole, or a day of year alone.
+///
+/// `yy` was named `year` as long as all of 0..=99 meant 2000 and later. Code that adds 2000 to it would tell 2091 for 1991, so by the old
+/// name it does not compile; it asks [`full_year`](Date::full_year), and makes dates by [`of_full_year`](Date::of_full_year):
+///
+/// ```compile_fail,E0026
+/// fn year(date: lindenscoop::Date) -> Option<u32> {
+///     match date {
+///         lindenscoop::Date::Full { year, .. } => Some(2000 + year),
+///         lindenscoop::Date::DayOfYear(_) => None,
+///     }
+/// }
+/// ```
+///
+/// ```compile_fail,E0559
+/// let date = lindenscoop::Date::Full { year: 24, month: 2, day: 29 };
+/// ```
 #[derive(Clone, Copy, Debug, PartialEq, Eq, Hash)]
 pub enum Date {
-    /// `year` is 0..=99 and means 2000 + year.
-    Full { year: u32, month: u32, day: u32 },
+    /// `yy` is 0..=99: 80..=99 mean 1980 to 1999, 0..=79 mean 2000 to 2079.
+    Full { yy: u32, month: u32, day: u32 },
     /// 1..=366
     DayOfYear(u32),
 }
 
 impl Date {
-    /// The date of a year with its century, 2000 to 2099; `None` for any other year.
+    /// The date of a year with its century, 1980 to 2079; `None` for any other year.
     pub fn of_full_year(year: u32, month: u32, day: u32) -> Option<Date> {
-        let year = year.checked_sub(2000).filter(|year| *year <= 99)?;
-        Some(Date::Full { year, month, day })
+        let yy = year % 100;
+        let date = Date::Full { yy, month, day };
+        (date.full_year() == Some(year)).then_some(date)
     }
 
-    /// The year with its century; `None` for a day of year alone.
+    /// The year with its century, 1980 to 2079; `None` for a day of year alone.
     ///
     /// ```
     /// use lindenscoop::{read, Date, Form};
     ///
     /// let date = read(Form::RACAL, b"XGU240101120000\r").unwrap().date;
-    /// assert_eq!(date, Some(Date::Full { year: 24, month: 1, day: 1 }));
+    /// assert_eq!(date, Some(Date::Full { yy: 24, month: 1, day: 1 }));
     /// assert_eq!(date.and_then(|date| date.full_year()), Some(2024));
     /// assert_eq!(date, Date::of_full_year(2024, 1, 1));
+    ///
+    /// let date = read(Form::RACAL, b"XGU910101120000\r").unwrap().date;
+    /// assert_eq!(date.and_then(|date| date.full_year()), Some(1991));
+    /// assert_eq!(date, Date::of_full_year(1991, 1, 1));
     /// ```
     pub fn full_year(self) -> Option<u32> {
-        match self {
-            Date::Full { year, .. } if year <= 99 => Some(2000 + year),
+        let Date::Full { yy, .. } = self else {
+            return None;
+        };
+        match ffi::full_year(yy) {
+            (0, year) => Some(year),
             _ => None,
         }
     }
 
-    /// The days from 1 January 2000 to the date; `None` for a day of year alone, and where the calendar has no such date.
+    /// The days from 1 January 1980 to the date; `None` for a day of year alone, and where the calendar has no such date.
     ///
     /// ```
     /// use lindenscoop::Date;
     ///
-    /// assert_eq!(Date::Full { year: 0, month: 1, day: 1 }.day_number(), Some(0));
-    /// assert_eq!(Date::Full { year: 24, month: 2, day: 29 }.day_number(), Some(8825));
-    /// assert_eq!(Date::Full { year: 23, month: 2, day: 29 }.day_number(), None);
-    /// assert_eq!(Date::DayOfYear(60).day_number(), None);
+    /// assert_eq!(Date::Full { yy: 80, month: 1, day: 1 }.days_since_1980(), Some(0));
+    /// assert_eq!(Date::Full { yy: 91, month: 1, day: 1 }.days_since_1980(), Some(4018));
+    /// assert_eq!(Date::Full { yy: 24, month: 2, day: 29 }.days_since_1980(), Some(16130));
+    /// assert_eq!(Date::Full { yy: 23, month: 2, day: 29 }.days_since_1980(), None);
+    /// assert_eq!(Date::DayOfYear(60).days_since_1980(), None);
     /// ```
-    pub fn day_number(&self) -> Option<u32> {
-        let Date::Full { year, month, day } = *self else {
+    pub fn days_since_1980(&self) -> Option<u32> {
+        let Date::Full { yy, month, day } = *self else {
             return None;
         };
-        match ffi::day_number(year, month, day) {
+        match ffi::days_since_1980(yy, month, day) {
             (0, days) => Some(days),
             _ => None,
         }

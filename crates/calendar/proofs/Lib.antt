@@ -1,7 +1,9 @@
+pub mod Digits
 pub mod Months
 pub mod Count
 pub mod Rule
 pub mod Ranges
 pub mod Entries
 pub mod DayOfYear
+pub mod Years
 pub mod Values

@@ -1,12 +1,13 @@
-// The Gregorian calendar of the years 2000 to 2099. Every function answers for all numbers: what is no date is said to be none.
+// The Gregorian calendar of the years 1980 to 2079, each named by its last two digits. Every function answers for all numbers: what is no date is said to be none.
 ghost use mathlib.Core.Path.{_≡_};
 ghost use mathlib.Core.Bool.{true};
 ghost use Rattle.calendar.specs.Calendar.{dayNumber, dayOfYear, isDate, isMonth, monthLength};
 ghost use Rattle.calendar.specs.Answers.{dateOfDay, dayNumberIn, dayOfYearIn, weekdayIn};
 
 mod table;
+pub mod year;
 
-// A number that only a date has.
+// A number that only a date has: the days before it, its weekday, its day of the year, its year with the century.
 pub enum Day {
     Number(u32),
     NoSuchDate,
@@ -18,14 +19,14 @@ pub enum MonthDay {
     NoSuchDate,
 }
 
-// Whether the calendar has month `m` of the year 2000 + `y`.
+// Whether the calendar has month `m` of the year `y`.
 fn is_month(y: u32, m: u32) -> bool
     ensures { λ r. ⌜ r ≡ isMonth y m ⌝ }
 {
     (y < 100) & ((1 <= m) & (m <= 12))
 }
 
-// The days of month `m` of the year 2000 + `y`, and 0 for a month that the calendar does not have: what lies between its entry in the table
+// The days of month `m` of the year `y`, and 0 for a month that the calendar does not have: what lies between its entry in the table
 // and the next.
 pub fn month_length(y: u32, m: u32) -> u32
     ensures { λ r. ⌜ r ≡ monthLength y m ⌝ }
@@ -36,7 +37,7 @@ pub fn month_length(y: u32, m: u32) -> u32
     table::first_of(y, m + 1) - table::first_of(y, m)
 }
 
-// Whether the calendar has day `d` of month `m` of the year 2000 + `y`.
+// Whether the calendar has day `d` of month `m` of the year `y`.
 pub fn is_date(y: u32, m: u32, d: u32) -> bool
     ensures { λ r. ⌜ r ≡ isDate y m d ⌝ }
 {
@@ -50,7 +51,7 @@ pub fn is_date(y: u32, m: u32, d: u32) -> bool
     d <= month_length(y, m)
 }
 
-// The days from 1 January 2000 to a date of the calendar.
+// The days from 1 January 1980 to a date of the calendar.
 fn number_of(y: u32, m: u32, d: u32) -> u32
     requires { ⌜ isDate y m d ≡ true ⌝ }
     ensures { λ r. ⌜ r ≡ dayNumber y m d ⌝ }
@@ -66,7 +67,7 @@ fn day_in_year(y: u32, m: u32, d: u32) -> u32
     table::first_of(y, m) - table::first_of(y, 1) + d
 }
 
-// The days from 1 January 2000 to a date, where there is one.
+// The days from 1 January 1980 to a date, where there is one.
 pub fn day_number(y: u32, m: u32, d: u32) -> Day
     ensures { λ r. ⌜ r ≡ dayNumberIn y m d ⌝ }
 {
@@ -82,8 +83,8 @@ pub fn weekday(y: u32, m: u32, d: u32) -> Day
     ensures { λ r. ⌜ r ≡ weekdayIn y m d ⌝ }
 {
     if is_date(y, m, d) {
-        // The days from Monday, 27 December 1999.
-        let days = number_of(y, m, d) + 5;
+        // The days from Monday, 31 December 1979.
+        let days = number_of(y, m, d) + 1;
         Day::Number(days % 7 + 1)
     } else {
         Day::NoSuchDate
@@ -101,7 +102,7 @@ pub fn day_of_year(y: u32, m: u32, d: u32) -> Day
     }
 }
 
-// The date of day `n` of the year 2000 + `y`: month by month, what is left of `n` behind the months before, until the month has such a day.
+// The date of day `n` of the year `y`: month by month, what is left of `n` behind the months before, until the month has such a day.
 pub fn date_of_day(y: u32, n: u32) -> MonthDay
     ensures { λ r. ⌜ r ≡ dateOfDay y n ⌝ }
 {

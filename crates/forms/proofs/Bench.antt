@@ -28,4 +28,4 @@ unfolding dateSearched dayNumber dayOfYear daysThrough firstDay isDate isLeap is
     readBlock layoutAt carriesOf bytesBy validated leapConsistent leftBy numbersInRange ranges readBy readLayout secondsConsistent signConsistent signsConsistent checksumsHold consistent
     weekdayInRange weekdayConsistent writeBy isExpressible formKindOf leftAs leftForm readAs readForm writeAs writeForm hasCarried hasWords bytesOf has layoutWidth
     shape values decodeChannel decodeDate decodeFlag decodeFraction decodeMinutes decodeOffset decodePosition halfHourOf elementsFrom answeredAll
-bench = record { cases-hold = refl; known-hold = refl; further-hold = refl; sat-hold = refl; calendar-hold = refl; sign-hold = refl; rmc-hold = refl; kind-hold = refl }
+bench = record { cases-hold = refl; known-hold = refl; further-hold = refl; sat-hold = refl; calendar-hold = refl; sign-hold = refl; rmc-hold = refl; kind-hold = refl; year-hold = refl }

@@ -17,6 +17,7 @@ use Rattle.forms.specs.Case.{Case, Holds, onesAt, reads, writes}
 use Rattle.forms.specs.Known.{known}
 use Rattle.forms.specs.RmcCases.{kindCases, rmcCases}
 use Rattle.forms.specs.Records.{fields, framedOf, splitOf, standardOf, syncedOf}
+use Rattle.forms.specs.YearCases.{yearCases}
 
 -- "J date 23-12-31, 23:59:59, sync yes"
 abbrev pub recordJ : Record
@@ -102,7 +103,7 @@ satCases =
 abbrev pub framedOn : ℕ → ℕ → ℕ → Record
 framedOn y m d = framedOf (dateIs.Full y m d) 0 0 0 Yes No (offsetIs.Minutes (pos 0)) No No
 
--- W-202: the way back from a year and a day of year, in leap years and others, and at the calendar's ends
+-- W-202: the way back from a year and a day of year, in leap years and others
 abbrev pub calendarCases : List Case
 calendarCases =
     reads "day 60 of 2024" 8 (onesAt (36 ∷ 37 ∷ 52 ∷ 56 ∷ [])) 0 (framedOn 24 2 29)
@@ -111,10 +112,10 @@ calendarCases =
     ∷ reads "day 366 of 2023" 8 (onesAt (31 ∷ 32 ∷ 36 ∷ 37 ∷ 40 ∷ 41 ∷ 50 ∷ 51 ∷ 56 ∷ 75 ∷ [])) 4 emptyRecord
     ∷ reads "day 0 of 2024" 8 (onesAt (52 ∷ 56 ∷ [])) 4 emptyRecord
     ∷ reads "day 1 of 2000" 8 (onesAt (30 ∷ 75 ∷ [])) 0 (framedOn 0 1 1)
-    ∷ reads "day 365 of 2099" 8 (onesAt (30 ∷ 32 ∷ 36 ∷ 37 ∷ 40 ∷ 41 ∷ 50 ∷ 53 ∷ 55 ∷ 58 ∷ [])) 0 (framedOn 99 12 31)
+    ∷ reads "day 365 of 1999" 8 (onesAt (30 ∷ 32 ∷ 36 ∷ 37 ∷ 40 ∷ 41 ∷ 50 ∷ 53 ∷ 55 ∷ 58 ∷ [])) 0 (framedOn 99 12 31)
     ∷ writes "1 March 2023" 6 (syncedOf (dateIs.Full 23 3 1) 0 0 0 Yes) 16 0 (text "\u{1}060:00:00:00 \r\n")
     ∷ writes "1 March 2024" 6 (syncedOf (dateIs.Full 24 3 1) 0 0 0 Yes) 16 0 (text "\u{1}061:00:00:00 \r\n")
-    ∷ reads "Thursday, 31 December 2099" 10 (text "\u{2}31.12.99/4/00:00:00UTC   \r\n\u{3}") 0
+    ∷ reads "Friday, 31 December 1999" 10 (text "\u{2}31.12.99/5/00:00:00UTC   \r\n\u{3}") 0
     (standardOf (dateIs.Full 99 12 31) 0 0 0 Yes Absent Yes No No Absent)
     ∷ []
 
@@ -144,3 +145,4 @@ pub record Bench : Type 0 where
   pub sign-hold : Holds signCases
   pub rmc-hold : Holds rmcCases
   pub kind-hold : Holds kindCases
+  pub year-hold : Holds yearCases

@@ -17,6 +17,7 @@ pub mod Records
 pub mod Case
 pub mod Known
 pub mod RmcCases
+pub mod YearCases
 pub mod Bench
 pub mod Demand1
 pub mod Demand2

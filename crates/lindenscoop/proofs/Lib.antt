@@ -1,3 +1,4 @@
+pub mod Numbered
 pub mod FormByte
 pub mod Room
 pub mod Runs

@@ -1,21 +1,15 @@
-// The calendar for C programs.
+// The calendar for C programs, by the two digits of a year.
+ghost use Rattle.calendar.specs.Answers.{dayNumberIn, fullYearIn};
 ghost use Rattle.lindenscoop.specs.Calendar.{NumberedAs};
 use calendar::Day;
 use record::refusal::Refusal;
 
-// The days from 1 January 2000 to a date of the year 2000 + `year`.
-#[no_mangle]
-pub extern "C" fn lindenscoop_day_number_raw(
-    year: u32,
-    month: u32,
-    day: u32,
-    number: &mut u32,
-) -> u32
-    ensures { λ n. ⌜ NumberedAs year month day n (now (number .exit)) ⌝ }
+fn store(answer: Day, number: &mut u32) -> u32
+    ensures { λ n. ⌜ NumberedAs answer n (now (number .exit)) ⌝ }
 {
-    match calendar::day_number(year, month, day) {
-        Day::Number(n) => {
-            *number = n;
+    match answer {
+        Day::Number(found) => {
+            *number = found;
             0
         }
         Day::NoSuchDate => {
@@ -23,4 +17,25 @@ pub extern "C" fn lindenscoop_day_number_raw(
             Refusal::OutOfRange.number()
         }
     }
+}
+
+// The year with its century that the digits `yy` name.
+#[no_mangle]
+pub extern "C" fn lindenscoop_full_year_raw(yy: u32, year: &mut u32) -> u32
+    ensures { λ n. ⌜ NumberedAs (fullYearIn yy) n (now (year .exit)) ⌝ }
+{
+    store(calendar::year::full_year(yy), year)
+}
+
+// The days from 1 January 1980 to a date.
+#[no_mangle]
+pub extern "C" fn lindenscoop_days_since_1980_raw(
+    yy: u32,
+    month: u32,
+    day: u32,
+    days: &mut u32,
+) -> u32
+    ensures { λ n. ⌜ NumberedAs (dayNumberIn yy month day) n (now (days .exit)) ⌝ }
+{
+    store(calendar::day_number(yy, month, day), days)
 }

@@ -58,10 +58,10 @@ static void random_date(uint32_t form, lindenscoop_record *r)
     }
     r->date = LINDENSCOOP_FULL_DATE;
     do {
-        r->year = between(0, 99);
+        r->yy = between(0, 99);
         r->month = between(1, 12);
         r->day = between(1, 31);
-    } while (!calendar_is_date(r->year, r->month, r->day));
+    } while (!calendar_is_date(r->yy, r->month, r->day));
 }
 
 /* The kind that the form carries, and any kind for the block. */

@@ -37,7 +37,11 @@ pub fn record(r: &reference::Record) -> Record {
         minute: r.minute,
         second: r.second,
         date: r.date.map(|date| match date {
-            reference::Date::Full { year, month, day } => Date::Full { year, month, day },
+            reference::Date::Full { year, month, day } => Date::Full {
+                yy: year,
+                month,
+                day,
+            },
             reference::Date::DayOfYear(day) => Date::DayOfYear(day),
         }),
         fraction: r.fraction.map(fraction),

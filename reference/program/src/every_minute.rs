@@ -1,16 +1,15 @@
 //! The RMC string and the kinds of W-204 as requests, so that no degree, no hundredth, no byte of a
 //! string and no kind in a form is left to a draw.
 
-use crate::forms::{string_length, FORMS};
+use crate::forms::{string_length, FORMS, LONGEST_BLOCK};
+use crate::generate::put_true_sum;
 use crate::protocol::{hex, spell_fields};
 use crate::record::{Date, Fraction, Position, Record};
 use crate::rmc::{write_rmc, SUM, SUMMED};
-use crate::serial::{exclusive_or, spell_sum};
 
 const RMC: u32 = 12;
 const BLOCK: u32 = 9;
 const LENGTH: usize = 65;
-const LONGEST_BLOCK: usize = 174;
 
 /// Hundredths of a minute in a degree.
 const DEGREE: i32 = 6_000;
@@ -58,16 +57,11 @@ fn read_request(form: u32, input: &[u8]) -> String {
     format!("read {form} {}", hex(input))
 }
 
-fn put_true_sum(s: &mut [u8]) {
-    let sum = spell_sum(exclusive_or(&s[SUMMED]));
-    s[SUM].copy_from_slice(sum.as_bytes());
-}
-
 /// The string of `record` with a text at a place, its sum put right.
 fn read_with(place: usize, text: &str) -> String {
     let mut s = write_rmc(&record());
     s[place..place + text.len()].copy_from_slice(text.as_bytes());
-    put_true_sum(&mut s);
+    put_true_sum(RMC, &mut s);
     read_request(RMC, &s)
 }
 
@@ -144,7 +138,7 @@ fn bytes_read() -> impl Iterator<Item = String> {
 /// With the sum put right, so that nothing hides what the byte itself is worth.
 fn bytes_read_with_their_sum() -> impl Iterator<Item = String> {
     one_byte_replaced(write_rmc(&record()), SUMMED).map(|mut s| {
-        put_true_sum(&mut s);
+        put_true_sum(RMC, &mut s);
         read_request(RMC, &s)
     })
 }
@@ -273,21 +267,8 @@ pub fn requests() -> impl Iterator<Item = String> {
 
 #[cfg(test)]
 mod tests {
-    use std::collections::BTreeMap;
-
     use super::*;
-    use crate::protocol::answer;
-
-    /// How often each number is answered.
-    fn answers(requests: impl Iterator<Item = String>) -> BTreeMap<u32, usize> {
-        let mut met = BTreeMap::new();
-        for request in requests {
-            let answer = answer(&request);
-            let number = answer.split(' ').next().unwrap_or_default();
-            *met.entry(number.parse().unwrap()).or_default() += 1;
-        }
-        met
-    }
+    use crate::protocol::numbers_answered as answers;
 
     // Of a degree's four borders three are there. 90 and 180 degrees have one, and a zero has no S,
     // no W and no minus.

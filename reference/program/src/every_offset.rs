@@ -1,7 +1,8 @@
 //! Every offset of the two frames as requests, so that no sign is left to a draw.
 
-use crate::forms::{write, FRAME_FORMS};
+use crate::forms::FRAME_FORMS;
 use crate::frame::{put, put_parity};
+use crate::generate::string_of;
 use crate::protocol::{hex, spell_fields};
 use crate::record::{Date, Record};
 
@@ -37,18 +38,12 @@ fn record(offset: i32, flags: u32) -> Record {
     }
 }
 
-fn frame(form: u32, record: &Record) -> Vec<u8> {
-    let mut e = vec![0; LENGTH];
-    write(form, record, &mut e).expect("a good record is written");
-    e
-}
-
 /// All that the elements of a frame's offset can tell, with the parity right and wrong: sign 0 and
 /// 1 on every number of half hours up to 15:30.
 fn frames(flags: u32) -> impl Iterator<Item = Vec<u8>> {
     let parities = |told| [0, 1].map(|wrong| (told, wrong));
     (0..64).flat_map(parities).map(move |(told, wrong)| {
-        let mut e = frame(FRAME_FORMS[0], &record(0, flags));
+        let mut e = string_of(FRAME_FORMS[0], &record(0, flags));
         put(&mut e, 64..=68, told % 32);
         put(&mut e, 70..=70, told / 32);
         put_parity(&mut e);
@@ -102,19 +97,13 @@ mod tests {
     use std::collections::{BTreeMap, BTreeSet};
 
     use super::*;
-    use crate::protocol::answer;
+    use crate::protocol::numbers_answered;
     use crate::read;
 
     /// How often each number is answered to the requests of one form.
     fn answers(form: u32, requests: impl Iterator<Item = String>) -> BTreeMap<u32, usize> {
-        let mut met = BTreeMap::new();
         let form = form.to_string();
-        for request in requests.filter(|request| request.split(' ').nth(1) == Some(&form)) {
-            let answer = answer(&request);
-            let number = answer.split(' ').next().unwrap_or_default();
-            *met.entry(number.parse().unwrap()).or_default() += 1;
-        }
-        met
+        numbers_answered(requests.filter(|request| request.split(' ').nth(1) == Some(&form)))
     }
 
     #[test]
@@ -141,7 +130,8 @@ mod tests {
                         accepted.insert(record.offset.unwrap(), e);
                     }
                 }
-                let written = offsets().map(|offset| (offset, frame(form, &record(offset, flags))));
+                let written =
+                    offsets().map(|offset| (offset, string_of(form, &record(offset, flags))));
                 assert_eq!(accepted, written.collect());
             }
         }
@@ -151,7 +141,7 @@ mod tests {
     fn either_parity_stands_beside_each_sign() {
         for form in FRAME_FORMS {
             for offset in offsets() {
-                let frames = flags().map(|flags| frame(form, &record(offset, flags)));
+                let frames = flags().map(|flags| string_of(form, &record(offset, flags)));
                 let parities: BTreeSet<u8> = frames.map(|e| e[75]).collect();
                 assert_eq!(parities, [0, 1].into());
             }

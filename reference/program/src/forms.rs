@@ -9,6 +9,9 @@ use crate::{block, frame, rmc, serial};
 /// The forms that are read and written: "1 and 11 no longer bar 12".
 pub const FORMS: RangeInclusive<u32> = 1..=12;
 
+/// The length of the longest block.
+pub(crate) const LONGEST_BLOCK: usize = 174;
+
 /// The length of a serial string or of a frame.
 pub fn string_length(form: u32) -> Option<usize> {
     match form {
@@ -55,11 +58,11 @@ fn is_form(form: u32) -> bool {
     FORMS.contains(&form)
 }
 
-/// Form 9 has no one length: a block has 118..174 bytes.
+/// Form 9 has no one length: a block has 118 bytes or more.
 fn length_fits(form: u32, length: usize) -> bool {
     match string_length(form) {
         Some(wanted) => length == wanted,
-        None => (118..=174).contains(&length),
+        None => (118..=LONGEST_BLOCK).contains(&length),
     }
 }
 

@@ -3,7 +3,7 @@
 use crate::block::KEYS;
 use crate::calendar;
 use crate::forms::{carried_fields_are_there, string_length, write};
-use crate::forms::{FORMS, FRAME_FORMS, SERIAL_FORMS};
+use crate::forms::{FORMS, FRAME_FORMS, LONGEST_BLOCK, SERIAL_FORMS};
 use crate::frame::{bits, digits, is_always_zero, is_mark, put, put_parity};
 use crate::protocol::{hex, spell_fields};
 use crate::record::{Date, Fraction, Position, Record};
@@ -78,8 +78,11 @@ impl Random {
     }
 }
 
+/// Years of either century at its ends, leap years and the common years beside them.
+const YEARS: [u32; 14] = [0, 1, 4, 23, 24, 76, 79, 80, 81, 84, 91, 93, 96, 99];
+
 fn good_full_date(random: &mut Random) -> Date {
-    let year = random.number(99, &[0, 1, 4, 23, 24, 96, 99]);
+    let year = random.number(99, &YEARS);
     let month = 1 + random.number(11, &[0, 1, 1, 2, 11]);
     let last = calendar::days_in_month(year, month);
     let day = 1 + random.number(last - 1, &[0, last - 1]);
@@ -206,12 +209,16 @@ pub fn good_record(form: u32, random: &mut Random) -> Record {
     record
 }
 
+/// The string of a record that the form can write.
+pub(crate) fn string_of(form: u32, record: &Record) -> Vec<u8> {
+    let mut buffer = [0; LONGEST_BLOCK];
+    let length = write(form, record, &mut buffer).expect("a good record is written");
+    buffer[..length].to_vec()
+}
+
 /// A valid string of the form.
 pub fn valid_string(form: u32, random: &mut Random) -> Vec<u8> {
-    let mut buffer = [0; 174];
-    let record = good_record(form, random);
-    let length = write(form, &record, &mut buffer).expect("a good record is written");
-    buffer[..length].to_vec()
+    string_of(form, &good_record(form, random))
 }
 
 /// A byte to put in place of another.
@@ -279,7 +286,7 @@ pub(crate) fn put_digits(s: &mut [u8], place: usize, width: usize, value: u32) {
     s[place..place + width].copy_from_slice(text.as_bytes());
 }
 
-/// Where year, month and day stand in a serial string.
+/// Where year, month and day stand in a serial string, or in a block with a full date.
 fn date_places(form: u32) -> Option<(usize, usize, usize)> {
     match form {
         1 => Some((9, 6, 3)),
@@ -288,6 +295,7 @@ fn date_places(form: u32) -> Option<(usize, usize, usize)> {
         4 => Some((7, 10, 13)),
         5 => Some((3, 5, 7)),
         7 => Some((2, 5, 8)),
+        9 => Some((5, 8, 11)),
         10 => Some((7, 4, 1)),
         12 => Some((52, 50, 48)),
         _ => None,
@@ -321,7 +329,14 @@ pub(crate) fn weekday_place(form: u32) -> Option<(usize, usize)> {
 }
 
 /// Year, month and day at or beyond the edges.
-const DATES: [(u32, u32, u32); 22] = [
+const DATES: [(u32, u32, u32); 29] = [
+    (80, 1, 1),
+    (80, 2, 29),
+    (80, 2, 30),
+    (81, 2, 29),
+    (99, 2, 29),
+    (79, 2, 29),
+    (79, 12, 31),
     (23, 2, 29),
     (24, 2, 29),
     (24, 2, 30),
@@ -464,9 +479,13 @@ fn put_true_weekday(form: u32, s: &mut [u8]) {
     }
 }
 
-fn put_true_sum(s: &mut [u8]) {
-    let sum = spell_sum(spa_sum(s));
-    put_text(s, 29, &sum);
+/// Puts the sum right in a string that has one.
+pub(crate) fn put_true_sum(form: u32, s: &mut [u8]) {
+    match form {
+        4 => put_text(s, 29, &spell_sum(spa_sum(s))),
+        12 => rmc::put_true_sum(s),
+        _ => {}
+    }
 }
 
 fn put_true_leap_letter(s: &mut [u8]) {
@@ -488,11 +507,8 @@ fn bend_serial(form: u32, s: &mut [u8], random: &mut Random) {
     if form == 3 && bent < 2 && !random.one_in(4) {
         put_true_leap_letter(s);
     }
-    if form == 4 && bent < 2 && !random.one_in(4) {
-        put_true_sum(s);
-    }
-    if form == 12 && bent < 2 {
-        rmc::put_true_sum_mostly(s, random);
+    if bent < 2 && !random.one_in(4) {
+        put_true_sum(form, s);
     }
 }
 
@@ -599,6 +615,7 @@ fn spelled_values(key: &str) -> &'static str {
     match key {
         "date" => {
             "-|24-02-29|23-02-29|24-04-31|24-13-01|24-00-10|24-01-00|24-01-32|00-02-29|99-12-31\
+             |79-12-31|80-01-01|80-02-29|81-02-29|91-06-30|91-06-31|99-02-29|79-02-29\
              |day-000|day-001|day-366|day-367|day-999"
         }
         "time" => {
@@ -731,7 +748,7 @@ pub fn too_long_block() -> Vec<u8> {
 }
 
 fn wrong_length(form: u32, random: &mut Random) -> usize {
-    let right = string_length(form).unwrap_or(174);
+    let right = string_length(form).unwrap_or(LONGEST_BLOCK);
     match random.below(4) {
         0 => right + 1,
         1 => right - 1,
@@ -953,8 +970,8 @@ pub fn any_record(form: u32, random: &mut Random) -> Record {
 
 /// The length of a buffer: exact, short by one, longer, or anything.
 fn buffer_length(form: u32, record: &Record, random: &mut Random) -> usize {
-    let mut buffer = [0; 174];
-    let usual = string_length(form).unwrap_or(174);
+    let mut buffer = [0; LONGEST_BLOCK];
+    let usual = string_length(form).unwrap_or(LONGEST_BLOCK);
     let exact = write(form, record, &mut buffer).unwrap_or(usual);
     match random.below(8) {
         0 | 1 => exact - 1,
@@ -1156,6 +1173,24 @@ mod tests {
                 assert_eq!(possible, *times > 20, "form {form}: {answer} {times} times");
                 assert_eq!(possible, *times > 0, "form {form}: {answer} {times} times");
             }
+        }
+    }
+
+    #[test]
+    fn every_year_is_drawn_in_every_form() {
+        for form in FORMS {
+            let mut random = Random::new(u64::from(form));
+            let mut years = BTreeMap::new();
+            for _ in 0..20_000 {
+                let record = good_record(form, &mut random);
+                if let Some(Date::Full { year, .. }) = record.date {
+                    *years.entry(year).or_insert(0) += 1;
+                }
+            }
+            assert!(years.keys().copied().eq(0..=99), "form {form}: {years:?}");
+            let before_2000: usize = years.range(80..).map(|(_, times)| times).sum();
+            let all: usize = years.values().sum();
+            assert!((all / 4..all / 2).contains(&before_2000), "form {form}");
         }
     }
 

@@ -1,6 +1,7 @@
 //! A second, independent implementation of document 01 ("Time strings, the frame and the block")
 //! and of document 02, W-201 (the SAT string, form 10), W-203 (the sign in the frame, forms 8 and
-//! 11) and W-204 (the RMC string, form 12, and the record's kinds that it brings).
+//! 11), W-204 (the RMC string, form 12, and the record's kinds that it brings) and W-205 (the years
+//! 1980 to 2079).
 //!
 //! It was written from these papers and the manuals alone, to be compared with the verified
 //! library. It is meant to be read beside the papers, not to be fast.

@@ -271,6 +271,20 @@ pub fn answer(line: &str) -> String {
     understood(line).unwrap_or("?".to_string())
 }
 
+/// How often each number is answered to reads and writes.
+#[cfg(test)]
+pub(crate) fn numbers_answered(
+    requests: impl Iterator<Item = String>,
+) -> std::collections::BTreeMap<u32, usize> {
+    let mut met = std::collections::BTreeMap::new();
+    for request in requests {
+        let answer = answer(&request);
+        let number = answer.split(' ').next().unwrap_or_default();
+        *met.entry(number.parse().unwrap()).or_default() += 1;
+    }
+    met
+}
+
 #[cfg(test)]
 mod tests {
     use super::*;

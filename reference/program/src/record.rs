@@ -5,7 +5,7 @@ use crate::calendar;
 /// A date: whole, or a day of year alone.
 #[derive(Clone, Copy, Debug, PartialEq, Eq)]
 pub enum Date {
-    /// `year` is 0..99 and means 2000 + year.
+    /// `year` is 0..99; `calendar::full_year` says which year it means.
     Full {
         year: u32,
         month: u32,

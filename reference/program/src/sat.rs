@@ -122,8 +122,10 @@ fn another_length_is_2() {
 #[test]
 fn a_number_outside_its_range_is_4() {
     assert_eq!(number(&at("29.02.24/4/00:00:00")), 0);
-    assert_eq!(number(&at("31.12.99/4/23:59:60")), 0);
+    assert_eq!(number(&at("01.01.80/2/00:00:00")), 0);
+    assert_eq!(number(&at("31.12.99/5/23:59:60")), 0);
     assert_eq!(number(&at("01.01.00/6/12:34:60")), 0);
+    assert_eq!(number(&at("31.12.79/7/23:59:60")), 0);
     for moment in [
         "29.02.23/4/00:00:00",
         "29.02.23/3/00:00:00",

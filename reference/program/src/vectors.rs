@@ -82,7 +82,7 @@ fn strings_from_outside() {
 
 #[test]
 fn sat_strings() {
-    assert_eq!(check("sat.txt"), 106);
+    assert_eq!(check("sat.txt"), 111);
 }
 
 #[test]
@@ -97,5 +97,5 @@ fn frames() {
 
 #[test]
 fn the_calendar() {
-    assert_eq!(check("calendar.txt"), 117);
+    assert_eq!(check("calendar.txt"), 403);
 }

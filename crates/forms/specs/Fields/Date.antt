@@ -1,4 +1,4 @@
--- The date: "a full date (yy 00..99 meaning 2000+yy, month, day) or a day of year alone, 1..366".
+-- The date: "a full date (yy 00..99 .., month, day) or a day of year alone, 1..366". Which year yy means is the calendar's.
 use mathlib.Core.Bool.{Bool, true, false, _&&_}
 use mathlib.Core.List.{List, [], _∷_}
 use Prim.Native.Nat.{ℕ}

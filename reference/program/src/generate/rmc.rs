@@ -78,15 +78,8 @@ fn put_sum(s: &mut [u8], sum: u8) {
     put_text(s, SUM.start, &spell_sum(sum));
 }
 
-fn put_true_sum(s: &mut [u8]) {
+pub(super) fn put_true_sum(s: &mut [u8]) {
     put_sum(s, exclusive_or(&s[SUMMED]));
-}
-
-/// The sum put right behind a bend, so that the bend itself is judged, or left wrong.
-pub(super) fn put_true_sum_mostly(s: &mut [u8], random: &mut Random) {
-    if !random.one_in(4) {
-        put_true_sum(s);
-    }
 }
 
 /// A sum that is none: over too many or too few bytes, or with a digit replaced.
@@ -131,7 +124,10 @@ pub(super) fn bend(s: &mut [u8], random: &mut Random) {
         bend_sum(s, random);
     } else {
         bend_field(s, random);
-        put_true_sum_mostly(s, random);
+        // The sum is mostly put right, so that the bend itself is judged.
+        if !random.one_in(4) {
+            put_true_sum(s);
+        }
     }
 }
 
