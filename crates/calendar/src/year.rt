@@ -9,11 +9,7 @@ pub(crate) fn year_of(y: u32) -> u32
     requires { ⌜ y < 100 ⌝ }
     ensures { λ r. ⌜ r ≡ yearOf y ⌝ }
 {
-    if 80 <= y {
-        1900 + y
-    } else {
-        2000 + y
-    }
+    if 80 <= y { 1900 + y } else { 2000 + y }
 }
 
 // The year with its century that the digits `y` name.
