@@ -1,6 +1,5 @@
 -- The laws of a year's two digits: one test decides the century.
 use Rattle.cond.proofs.Kit.{_%_, _+_, _<_, _≡_, _≤_, arith, le-leb, leb, leb-false, leb-true, lt-leb, ℕ}
-use Rattle.cond.specs.Pick.{pick}
 use Rattle.cond.proofs.Tests.{either-way}
 use Rattle.calendar.specs.Calendar.{yearOf}
 
@@ -17,7 +16,4 @@ digits y h =
     (λ e. let l = leb-false 80 y e in omega (arith, below-80 y l))
 
 pub named : (n : ℕ) → 1980 ≤ n → n ≤ 2079 → yearOf (n % 100) ≡ n
-named n h l =
-    either-way (leb 80 (n % 100))
-    (λ e. let g = leb-true 80 (n % 100) e in omega (arith, from-80 (n % 100) g))
-    (λ e. let g = leb-false 80 (n % 100) e in omega (arith, below-80 (n % 100) g))
+named n h l = omega (arith, digits (n % 100) (omega arith))

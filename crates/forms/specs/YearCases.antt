@@ -1,6 +1,5 @@
 -- W-205: years of both centuries, as rows of a table.
 use mathlib.Core.List.{List, [], _∷_}
-use Prim.Native.Nat.{ℕ}
 use lib.IntN.{pos}
 use Rattle.spelling.specs.Bytes.{text}
 use Rattle.record.specs.Record.{emptyRecord}
