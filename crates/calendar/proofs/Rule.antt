@@ -9,7 +9,7 @@ entry zero k i h = absurd (not-suc-le-zero h)
 entry (suc n) k zero h = rw add-zero
 entry (suc n) k (suc i) h = entry n (suc k) i (le-of-suc-le-suc h) ∙ rw (suc-add, add-suc)
 
--- the test is the last equation: a row that is what the rule computes for year k has the days before the months of year k
+-- the test is the last equation: a row that is what the rule computes for row k, 0 for 1980, has the days before the months of its year
 pub rule : (y n k m r : ℕ) (xs : List ℕ) → n ≡ yearOf y → n - 1980 + m / 13 ≡ k → (1 ≤ m) × (m ≤ 13) → r ≡ getD xs ((m - 1) % 12) 0
     → xs ≡ firstDays 12 (k * 12) (firstDay (k * 12)) → r ≡ firstOf y m
 rule y n k m r xs e f h g t = g ∙ ap (λ zs. getD zs ((m - 1) % 12) 0) t ∙ entry 12 (k * 12) ((m - 1) % 12) (omega arith) ∙ ap firstDay (omega arith)
