@@ -14,11 +14,11 @@ cc=${CC:-cc} cxx=${CXX:-c++}
 
 # Every exported function is declared, ends in _numbers where it takes a record and in _raw where it takes none, and has one of the plain name over it.
 exported=$(nm -g --defined-only "$lib" | sed -n 's/^.* T //p' | sort)
-declared=$(sed -n 's/^LINDENSCOOP_NOT_NULL uint32_t \(lindenscoop_[a-z0-9_]*\)(.*;$/\1/p' "$include/lindenscoop.h" | sort)
+declared=$(sed -n 's/^LINDENSCOOP_NOT_NULL [a-z0-9_]* \(lindenscoop_[a-z0-9_]*\)(.*;$/\1/p' "$include/lindenscoop.h" | sort)
 [ -n "$exported" ] && [ "$exported" = "$declared" ] || { printf 'test-c: the library exports\n%s\nand the header declares\n%s\n' "$exported" "$declared" >&2; exit 1; }
 for name in $exported; do
     end=_raw
-    if grep -q "^LINDENSCOOP_NOT_NULL uint32_t $name(.*numbers" "$include/lindenscoop.h"; then
+    if grep -q "^LINDENSCOOP_NOT_NULL [a-z0-9_]* $name(.*\(numbers\|lindenscoop_record record\)" "$include/lindenscoop.h"; then
         end=_numbers
     fi
     plain=${name%"$end"}
@@ -27,7 +27,7 @@ for name in $exported; do
 done
 
 # The oldest and the named standards of both languages.
-for name in fields kinds rmc; do
+for name in fields kinds rmc runs; do
     source=bindings/c/tests/$name.c
     $cc -std=c99 $warn -fsyntax-only -I$include $source
     $cxx -std=c++11 -x c++ $warn -Wold-style-cast -fsyntax-only -I$include $source
@@ -38,8 +38,8 @@ for name in fields kinds rmc; do
 done
 
 # Whether a field is there, and whether two digits are a year, must be looked at.
-for call in 'lindenscoop_get_offset(&r, &minutes)' 'lindenscoop_full_year(r.yy, &year)'; do
-    printf '#include "lindenscoop.h"\nint main(void) { lindenscoop_record r = {0}; int32_t minutes = 0; uint32_t year = 0; %s; return minutes || year; }\n' "$call" >"$made/unlooked.c"
+for call in 'lindenscoop_get_offset(&r, &minutes)' 'lindenscoop_full_year(r.yy, &year)' 'lindenscoop_second_date(&s, &year, &year, &year)'; do
+    printf '#include "lindenscoop.h"\nint main(void) { lindenscoop_record r = {0}; lindenscoop_second s = {0}; int32_t minutes = 0; uint32_t year = 0; (void)r, (void)s; %s; return minutes || year; }\n' "$call" >"$made/unlooked.c"
     if $cc -std=c11 -Werror -I$include -c "$made/unlooked.c" -o "$made/unlooked.o" 2>"$made/unlooked.log" || ! grep -q 'unused' "$made/unlooked.log"; then
         echo "test-c: an answer of $call that is not looked at is not warned of" >&2
         exit 1

@@ -2,7 +2,8 @@
 """Tries the command lindenscoop as its users would:  test-command.py PROGRAM
 
 It builds nothing. A technician listens on a pseudo-terminal in its default mode, somebody exports logs and has them written again,
-somebody asks why a log is silent, somebody tests a recorder without a clock; and disks are full, ports closed, pipes ended.
+somebody asks which seconds were heard and has a picture drawn of them, somebody asks why a log is silent, somebody tests a recorder without
+a clock; and disks are full, ports closed, pipes ended.
 """
 import calendar
 import csv
@@ -13,6 +14,8 @@ import operator
 import os
 import pathlib
 import pty
+import re
+import resource
 import select
 import signal
 import subprocess
@@ -22,6 +25,13 @@ import termios
 import time
 
 ROOT = pathlib.Path(__file__).resolve().parent.parent
+RUNS = ROOT / "tests/runs"
+sys.dont_write_bytecode = True
+sys.path.insert(0, str(RUNS))
+
+from picture import Picture, faults
+from seconds import at, every, heard_in, listed, racal, wandering
+
 # Name and length of each form that can be listened for.
 FORMS = {1: ("standard", 32), 2: ("capture", 31), 3: ("erlangen", 66), 4: ("spa", 32), 5: ("racal", 16), 6: ("sysplex", 16), 7: ("computime", 24),
          10: ("sat", 29), 12: ("rmc", 65)}
@@ -40,6 +50,20 @@ RMC_BLOCK = (b"date=23-12-18\ntime=22:09:52\nfraction=00\nchannel=-\nsync=yes\nf
 ERLANGEN = b"\x0201.01.24; 1; 13:00:00; +00:00; #*     ;  0.0000N   0.0000E    0m\x03"
 FRAMED = b'{"date":"2024-01-01","time":"00:00:00","sync":true,"summer":false,"offset":"%s","dsp":false,"lsp":false}'
 SECONDS = 10
+# Logs with their forms: gaps within and over minutes, with damaged strings; a leap second, a repeat and a clock set back; 150 runs, where a table has
+# 64 rows; runs days apart, over the end of 1999 and a leap day.
+STORED = {"gaps": "standard", "leap": "racal", "many": "racal", "apart": "computime"}
+# Logs that follow a rule: six hours with one second missing, at the beginning of a line of the picture, which is less than a hundredth of a percent; a
+# day and a half with one missing and ten thousand; three hours of every other second before three whole ones; one second in every ten minutes, and one
+# in every hour; a leap second alone between two gaps, and a minute alone in which nothing was heard.
+MADE = {
+    "hours": every("2024-05-04 17:00:00", 21600, but=[9000]),
+    "day": every("2024-05-04 12:30:00", 130000, but=[43210, *range(100000, 110000)]),
+    "halves": every("2024-05-04 08:00:00", 21600, but=range(1, 10800, 2)),
+    "sparse": every("2024-02-27 00:00:00", 172800, 600),
+    "sparser": every("2024-02-20 00:30:00", 864000, 3600),
+    "alone": every("2015-06-30 23:59:40", 10) + [at("2015-06-30 23:59:60")] + every("2015-07-01 00:00:10", 40) + every("2015-07-01 00:02:30", 5),
+}
 
 program = ""
 counts = {"passed": 0, "failed": 0}
@@ -100,7 +124,7 @@ def finish(process):
 def test_help():
     status, out, _ = run("--help")
     check("--help", status == 0 and b"listen" in out and b"simulate" in out, out)
-    for name in ["listen", "export", "why", "write", "simulate"]:
+    for name in ["listen", "export", "runs", "why", "write", "simulate"]:
         status, out, _ = run(name, "--help")
         check(name + " --help", status == 0 and out.startswith(b"lindenscoop " + name.encode()), out)
     status, out, _ = run("--version")
@@ -114,7 +138,11 @@ def test_usage():
              ["export", "--form", "1", "-"], ["export", "--json", "--csv", "--form", "1", "-"], ["export", "--csv", "--form", "1"],
              ["why"], ["why", "-", "-"], ["write"], ["write", "racl"], ["write", "15"], ["listen", "-", "--form", "11"],
              ["listen", "-", "--form", "block"], ["export", "--csv", "--form", "8", "-"], ["export", "--csv", "--form", "c37118", "-"],
-             ["write", "010"], ["write", "012"], ["listen", "-", "--form", "gprmc"]]
+             ["write", "010"], ["write", "012"], ["listen", "-", "--form", "gprmc"], ["runs"], ["runs", "-"], ["runs", "--form", "1"],
+             ["runs", "--form", "1", "-", "-"], ["runs", "--form", "block", "-"], ["runs", "--form", "1", "--loud", "-"],
+             ["runs", "--form", "1", "--csv", "--json", "-"], ["runs", "--form", "1", "--svg"], ["runs", "--form", "1", "--title", "a", "-"],
+             ["runs", "--form", "1", "--svg", "-", "--title", " ", "-"], ["runs", "--form", "1", "--svg", "-", "--csv", "-"],
+             ["runs", "--form", "1", "--svg", "-", "--json", "-"], ["runs", "--form", "1", "--baud", "fast", "-"]]
     for words in wrong:
         status, out, error = run(*words)
         check("usage of %s" % words, status == 2 and out == b"" and "--help" in error, (status, error))
@@ -123,10 +151,10 @@ def test_usage():
         error = run("listen", "-", "--form", name)[2]
         check("not listened for: " + name, numbered in error and name + " is not listened" in error, error)
     names = [name for name, _ in FORMS.values()]
-    for words in (["listen", "-"], ["write"], ["simulate"]):
+    for words in (["listen", "-"], ["runs", "-"], ["write"], ["simulate"]):
         error = run(*words)[2]
         check("the forms are named: %s" % words, all(name in error for name in names), error)
-        check("those that are not listened for: %s" % words, ("block" in error) == (words[0] != "listen"), error)
+        check("those that are not listened for: %s" % words, ("block" in error) == (words[0] in ("write", "simulate")), error)
 
 
 # ---- listen ----
@@ -392,12 +420,189 @@ def test_export_files(folder):
     check("a file that is not there", status == 3 and out.count(b"\n") == 1 and "none" in error, (status, error))
 
 
+# ---- runs ----
+
+def runs_cases():
+    """Each log with its form and its bytes."""
+    for name, form in STORED.items():
+        yield name, form, (RUNS / (name + ".log")).read_bytes()
+    for name, seconds in MADE.items():
+        yield name, "racal", racal(seconds)
+
+
+def rows_of(out):
+    """Rows of CSV, with None for an empty cell."""
+    cells = [[cell or None for cell in row] for row in csv.reader(io.StringIO(out.decode()))]
+    return [(*row[:3], row[3] and int(row[3])) for row in cells[1:]] if cells[:1] == [["kind", "first", "last", "seconds"]] else []
+
+
+def test_runs_stored():
+    """The stored outputs, byte for byte, each made twice."""
+    ways = {"txt": [], "csv": ["--csv"], "json": ["--json"], "svg": ["--svg", "-", "--title", "Great hall, rack A & B"]}
+    for name, form, data in runs_cases():
+        for end, words in ways.items():
+            stored = RUNS / ("%s.%s" % (name, end))
+            if name not in (*STORED, "hours", "day"):
+                continue
+            for _ in range(2):
+                status, out, error = run("runs", "--form", form, *words, "-", given=data)
+                check("stored: " + stored.name, status == 0 and out == stored.read_bytes(), (status, error, out[:200]))
+            check("counts of " + stored.name, error.startswith("end bytes=%d telegrams=" % len(data)), error)
+
+
+def test_runs_listed():
+    """CSV, JSON, text and sums are what is worked out from the log second by second."""
+    line = r"(\w+) +(?:([-\d]+ [:\d]+)   ([-\d]+ [:\d]+) +|the next second is )(?:the same again|(\d+) s)(?: earlier)?"
+    for name, form, data in runs_cases():
+        wanted = listed(heard_in(form, data))
+        check("runs as CSV: " + name, rows_of(run("runs", "--csv", "--form", form, "-", given=data)[1]) == wanted, "")
+        objects = [json.loads(line) for line in run("runs", "--json", "--form", form, "-", given=data)[1].splitlines()]
+        check("runs as JSON: " + name, [tuple(o[key] for key in ("kind", "first", "last", "seconds")) for o in objects] == wanted, objects[:3])
+        *lines, sums = run("runs", "--form", form, "-", given=data)[1].decode().splitlines()
+        found = [re.fullmatch(line, text) for text in lines]
+        check("runs as text: " + name, [match and (*match.groups()[:3], match[4] and int(match[4])) for match in found] == wanted, lines[:5])
+        widths = {len(text) for text in lines if text.split()[0] in ("heard", "missing")}
+        check("runs in columns: " + name, len(widths) == 1, widths)
+        of = {kind: [row[3] for row in wanted if row[0] == kind] for kind in ("heard", "missing", "repeat", "back")}
+        numbers = len(of["heard"]), sum(of["heard"]), len(of["missing"]), sum(of["missing"]), len(of["repeat"]), len(of["back"])
+        spelled = "runs %d, seconds heard %d, gaps %d, seconds missing %d, repeats %d, steps back %d, records passed over 0" % numbers
+        check("sums of runs: " + name, sums == spelled, sums)
+        check("sums beside CSV: " + name, run("runs", "--csv", "--form", form, "-", given=data)[2].splitlines()[1:] == [spelled], "")
+
+
+def test_runs_pictures():
+    """What the pictures show is what is worked out from the logs, in the line that a page has room for."""
+    lines = {"gaps": 60, "leap": 60, "many": 60, "apart": 60, "hours": 600, "halves": 600, "day": 3600, "sparse": 3600, "sparser": 86400, "alone": 60}
+    for name, form, data in runs_cases():
+        status, out, error = run("runs", "--svg", "-", "--form", form, "-", given=data)
+        found = faults(out, heard_in(form, data))
+        check("picture of " + name, status == 0 and not found, (status, error, found[:5]))
+        check("line of the picture of " + name, Picture(out).line == lines[name], Picture(out).line)
+
+
+def test_runs_wandering():
+    """A clock that goes on, leaves some seconds out, repeats, is set back and has leap seconds."""
+    for seed in range(40):
+        seconds = wandering(seed)
+        out = run("runs", "--csv", "--form", "racal", "-", given=racal(seconds))[1]
+        check("runs of seed %d" % seed, rows_of(out) == listed(seconds), out[:200])
+        found = faults(run("runs", "--svg", "-", "--form", "racal", "-", given=racal(seconds))[1], seconds)
+        check("picture of seed %d" % seed, not found, found[:5])
+
+
+def test_runs_one_second():
+    """One missing second in lines of ten minutes and of an hour: two pixels wide, with a triangle above and its number at the right."""
+    for name in ("hours", "day"):
+        drawn = Picture(run("runs", "--svg", "-", "--form", "racal", "-", given=racal(MADE[name]))[1])
+        marks = [piece for kind in ("missing", "mixed") for piece in drawn.pieces(kind) if piece.missing == 1]
+        check("one missing second of " + name, [piece.width for piece in marks] == [2], marks)
+        check("its triangle: " + name, [(piece.x + 1, piece.y) in drawn.triangles() for piece in marks] == [True], drawn.triangles())
+        numbers = [text.text for text in drawn.group("lines") if text.get("fill") == "#c62828" and text.text == "1"]
+        check("its number: " + name, len(numbers) == 1, numbers)
+
+
+def test_runs_title(folder):
+    """Letters that XML has for itself, and names that are long; without a title it is the file's name without its folder."""
+    path = folder / "<hall> & \"rack\".log"
+    path.write_bytes(RACAL * 2)
+    draw = lambda *words: Picture(run("runs", "--svg", "-", "--form", "racal", *words)[1])
+    for drawn, title in ((draw(str(path)), path.name), (draw(str(path), "--title=</text>]]>"), "</text>]]>"), (draw("--title", "a\tb\x1b", str(path)), "a b\ufffd")):
+        check("title " + title, (drawn.root[0].text, drawn.words[0]) == (title, title), drawn.words[:2])
+    long = ("Ä <b> " * 50).strip()
+    drawn = draw("--title", long, str(path))
+    check("a long title", len(drawn.words[0]) < 90 and " ".join(drawn.words).startswith(long), drawn.words[:5])
+    status, out, _ = run("runs", "--svg", "-", "--form", "racal", "-", given=RACAL)
+    check("standard input as the title", status == 0 and Picture(out).words[0] == "standard input", out[:300])
+
+
+def test_runs_nothing(folder):
+    """Nothing heard is status 1, with words on what to do, and leaves no picture."""
+    drawn = folder / "nothing.svg"
+    status, out, error = run("runs", "--form", "sysplex", "--svg", str(drawn), str(RUNS / "undated.log"))
+    wanted = "end bytes=192 telegrams=12\n", "12 strings of sysplex", "refused with 14: ", "whole date, such as standard"
+    check("strings without a date", (status, out) == (1, b"") and all(words in error for words in wanted), (status, out, error))
+    check("no picture of strings without a date", not drawn.exists(), "")
+    for words, head in ((["--csv"], b"kind,first,last,seconds\n"), (["--json"], b""), ([], b""), (["--svg", "-"], b"")):
+        status, out, error = run("runs", "--form", "racal", *words, "-", given=A)
+        check("nothing heard %s" % words, (status, out) == (1, head) and "lindenscoop why" in error and "telegrams=0" in error, (status, out, error))
+
+
+def small_files():
+    resource.setrlimit(resource.RLIMIT_FSIZE, (1000, 1000))
+
+
+def test_runs_picture_fails(folder):
+    """A picture is a new file, and is whole or not there."""
+    drawn, kept = folder / "new.svg", folder / "kept.svg"
+    words = ["runs", "--form", "racal", "-", "--svg"]
+    status, out, error = run(*words, str(drawn), given=RACAL)
+    check("list and picture", status == 0 and out.startswith(b"heard ") and drawn.read_bytes() == run(*words, "-", given=RACAL)[1], (status, error))
+    kept.write_bytes(b"kept")
+    status, out, error = run(*words, str(kept), given=RACAL)
+    check("a picture is not overwritten", (status, out, kept.read_bytes()) == (2, b"", b"kept") and "already" in error, (status, error))
+    status, out, error = run(*words, str(folder / "none/new.svg"), given=RACAL)
+    check("a picture that cannot be made", (status, out) == (3, b"") and "none/new.svg" in error, (status, error))
+    for path in (folder, folder / "no such log"):
+        drawn.unlink(missing_ok=True)
+        status, _, error = run("runs", "--form", "racal", str(path), "--svg", str(drawn))
+        check("no picture where the log fails", status == 3 and not drawn.exists(), (status, error))
+    # Python ignores the signal of a file that is too large, and hands that on here
+    status, _, error = run(*words, str(drawn), given=RACAL, preexec_fn=small_files, restore_signals=False)
+    check("a picture without room", status == 3 and "new.svg" in error and "not whole" in error and not drawn.exists(), (status, error))
+    with open("/dev/full", "wb") as full:
+        status, _, error = run(*words, str(drawn), given=RACAL, stdout=full)
+    check("no picture where the list fails", status == 3 and "space" in error and not drawn.exists(), (status, error))
+
+
+def test_runs_stopped(folder):
+    """A log that is not read to its end is a failure, and no picture of it is left."""
+    long, drawn = folder / "long runs.log", folder / "stopped.svg"
+    with open(long, "wb") as file:
+        file.write(racal(MADE["hours"][:100]))
+        file.truncate(1 << 36)
+    process = start("runs", "--form", "racal", str(long), "--svg", str(drawn))
+    until = time.monotonic() + SECONDS
+    while not drawn.exists() and time.monotonic() < until:
+        time.sleep(0.01)
+    process.send_signal(signal.SIGINT)
+    out = process.stdout.read()
+    status, error = finish(process)
+    check("Ctrl-C in a log", status == 3 and "stopped before the end" in error and not drawn.exists(), (status, error))
+    check("no sums of a part", b"seconds heard" not in out, out)
+    long.unlink()
+
+
+def test_runs_at_once():
+    """A run is printed when it is ended, and the last one at the end; a port is listened to until Ctrl-C."""
+    given = racal(every("2024-05-04 20:00:00", 3) + every("2024-05-04 20:00:10", 1))
+    process = start("runs", "--csv", "--form", "racal", "-", stdin=subprocess.PIPE)
+    process.stdin.write(given)
+    process.stdin.flush()
+    first = wait_for(process.stdout, b",3\n")
+    check("a run when it is ended", first.endswith(b"heard,2024-05-04 20:00:00,2024-05-04 20:00:02,3\n"), first)
+    process.stdin.close()
+    rest = process.stdout.read().splitlines()
+    check("the last run at the end", rest[-1:] == [b"heard,2024-05-04 20:00:10,2024-05-04 20:00:10,1"] and process.wait(SECONDS) == 0, rest)
+    clock, port = pty.openpty()
+    process = start("runs", "--form", "racal", "--baud", "9600", os.ttyname(port))
+    wait_for(process.stderr, b"Ctrl-C")
+    os.write(clock, given)
+    wait_for(process.stdout, b" 3 s\n")
+    process.send_signal(signal.SIGINT)
+    rest = process.stdout.read()
+    status, error = finish(process)
+    check("runs of a port", status == 0 and rest.endswith(b"steps back 0, records passed over 0\n") and b" 7 s\n" in rest and "telegrams=4" in error, (status, rest, error))
+    os.close(clock)
+    os.close(port)
+
+
 # ---- failures ----
 
 def test_failures(folder):
     given = folder / "a.log"
     given.write_bytes(A * 3)
     commands = {"listen": ["listen", "--form", "1"], "export": ["export", "--csv", "--form", "1"], "json": ["export", "--json", "--form", "1"],
+                "runs": ["runs", "--form", "1"], "runs as CSV": ["runs", "--csv", "--form", "1"], "picture": ["runs", "--form", "1", "--svg", "-"],
                 "why": ["why"]}
     for name, words in commands.items():
         with open("/dev/full", "wb") as full:

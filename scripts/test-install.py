@@ -16,8 +16,8 @@ import tempfile
 import traceback
 
 ROOT = pathlib.Path(__file__).resolve().parent.parent
-COMMANDS = ["listen", "export", "why", "write", "simulate"]
-FUNCTIONS = ["read", "write", "search", "start", "feed", "feed_all", "mark", "full_year", "days_since_1980", "message"]
+COMMANDS = ["listen", "export", "runs", "why", "write", "simulate"]
+FUNCTIONS = ["read", "write", "search", "start", "feed", "feed_all", "mark", "full_year", "days_since_1980", "add_second", "runs_clear", "second_date", "message"]
 VERSION = subprocess.run([ROOT / "scripts/version"], capture_output=True, text=True).stdout.strip()
 SO = "liblindenscoop.so"
 LINKED = SO + "." + VERSION.rsplit(".", 1)[0]
@@ -99,9 +99,9 @@ def test_exports(prefix, _):
     """No name but those that the header declares."""
     header = (prefix / "include/lindenscoop.h").read_text()
     names = run("nm", "-D", "--defined-only", prefix / "lib" / SO).stdout.split("\n")
-    declared = set(re.findall(r"^LINDENSCOOP_NOT_NULL uint32_t (\w+)\(", header, re.M))
+    declared = set(re.findall(r"^LINDENSCOOP_NOT_NULL \w+ (\w+)\(", header, re.M))
     same("exported names", {line.split()[-1] for line in names if line}, declared)
-    check("exported names are some", len(declared) == 9, declared)
+    check("exported names are some", len(declared) == 10, declared)
 
 
 # ---- From C, C++ and Python ----
@@ -200,7 +200,7 @@ def test_words(prefix, _):
     told = run(prefix / "bin/lindenscoop", "none").stderr
     same("subcommands", re.findall(r"\w+", told.split("one of ")[1].split("\n")[0]), COMMANDS)
     options, serial, every = command_words(prefix)
-    same("how many options", [len(options[name]) for name in COMMANDS], [5, 6, 1, 1, 8])
+    same("how many options", [len(options[name]) for name in COMMANDS], [5, 6, 8, 1, 1, 8])
     same("how many forms", (len(serial), len(every), other_forms(serial, every)), (9, 12, "frame block c37118"))
     same("their numbers", list(every.values()), [str(number) for number in range(1, 13)])
 
@@ -246,7 +246,7 @@ def test_manual_of_the_library(prefix, _):
         check(f"{name} in the manual", re.search(rf"\b{name}\b", text), "")
     numbers = dict(re.findall(r"^    (LINDENSCOOP_\w+) = (\d+)", header, re.M))
     refusals = re.findall(r'case (LINDENSCOOP_\w+):\n        return "(.*)";', header)[1:-1]
-    same("how many refusals", len(refusals), 13)
+    same("how many refusals", len(refusals), 16)
     forms = re.findall(r"^    (LINDENSCOOP_\w+) = (\d+)", header.split("/* The forms.")[1].split("};")[0], re.M)
     same("how many forms in the header", len(forms), 12)
     for name, number in forms:
@@ -276,7 +276,7 @@ def test_bash(prefix, _):
             same(f"bash: forms of {name}", completed(prefix, name, "--form", ""), set(serial))
             same(f"bash: forms of {name} behind =", completed(prefix, name, "--form", "="), set(serial))
             same(f"bash: a form of {name} begun", completed(prefix, name, "--form", "=", "sta"), {"standard"})
-        for option in ("--record", "--to"):
+        for option in ("--record", "--to", "--svg"):
             if option in options[name]:
                 same(f"bash: {name} {option}", completed(prefix, name, option, ""), {"files"})
     same("bash: files of write", completed(prefix, "write", "racal", ""), {"files"})

@@ -1,5 +1,6 @@
 #!/usr/bin/env python3
-"""The Python module over the shared library, which is made afresh for it: vectors, streams, fields, days, refusals, forms, and how it is found.
+"""The Python module over the shared library, which is made afresh for it: vectors, streams, fields, days, runs, refusals, forms, and how it
+is found.
 
     scripts/test-python.py
 
@@ -17,6 +18,7 @@ import operator
 import os
 import pathlib
 import pickle
+import random
 import re
 import shutil
 import signal
@@ -123,15 +125,56 @@ def answered(form, data):
         return refused.number, b"-"
 
 
+def parsed_second(numbers):
+    """What is no two digits becomes a year that no two digits mean."""
+    year, *rest = numbers
+    return ls.Second(year + (10000 if year > 99 else 1900 if year >= 80 else 2000), *rest)
+
+
+def parsed_table(text, length):
+    """The rows of a table; one that is not named is all zero."""
+    rows = [ls.Run(parsed_second([0] * 6), parsed_second([0] * 6), 0)] * length
+    for row in [] if text == "-" else text.split(";"):
+        place, *numbers = map(int, row.split(":"))
+        rows[place] = ls.Run(parsed_second(numbers[:6]), parsed_second(numbers[6:12]), numbers[12])
+    return rows
+
+
+def check_add(form, data, number, expected):
+    """A line of one call on a table."""
+    length, used = map(int, form.split()[1:])
+    table, record = data.split(" ")
+    used_after, table_after = expected.split(" ")
+    runs = ls.Runs.of(parsed_table(table, length), used)
+    same(number_of(runs.add, parsed_record(record)), int(number), f"{form} {data}")
+    same((runs.used, runs.rows), (int(used_after), parsed_table(table_after, length)[: runs.used]), f"{form} {data}, afterwards")
+
+
+def check_addall(data, numbers, expected):
+    """A line of calls from an empty table on."""
+    runs, told = ls.Runs(), []
+    for record in [] if data == "-" else data.split(";"):
+        number = number_of(runs.add, parsed_record(record))
+        told.append(f"{number}:{runs.used}")
+    same((";".join(told) or "-"), numbers, f"addall {data}")
+    same(runs.rows, parsed_table(expected, 64)[: runs.used], f"addall {data}, afterwards")
+
+
 def test_vectors():
-    lines = 0
+    lines = {"add": 0, "addall": 0, "": 0}
     for path in sorted((ROOT / "vectors").glob("*.txt")):
         for line in path.read_text(encoding="utf-8").splitlines():
             if line and not line.startswith("#"):
                 form, data, number, expected, _ = line.split("\t")
-                same(answered(form, data), (int(number), unescaped(expected)), f"{path.name}: {form} {data}")
-                lines += 1
-    check(lines > 50, f"only {lines} vectors")
+                word = form.split()[0] if form.startswith("add") else ""
+                lines[word] += 1
+                if word == "add":
+                    check_add(form, data, number, expected)
+                elif word == "addall":
+                    check_addall(data, number, expected)
+                else:
+                    same(answered(form, data), (int(number), unescaped(expected)), f"{path.name}: {form} {data}")
+    check(all(count > 10 for count in lines.values()), f"few vectors: {lines}")
 
 
 # ---- Streams ----
@@ -461,6 +504,262 @@ def test_days():
     check(not hasattr(ls, "day_number"), "the days are still counted by the name that meant those from 2000 on")
 
 
+# ---- Runs ----
+
+
+def second_at(moment):
+    return ls.Second(moment.year, moment.month, moment.day, moment.hour, moment.minute, moment.second)
+
+
+def record_at(second, **more):
+    return ls.Record(second.hour, second.minute, second.second, second.date, **more)
+
+
+def alone(second):
+    return ls.Run(second, second, 1)
+
+
+def follows(before, after):
+    """Whether a second is the next of another one, by Python's own calendar, which has no second 60."""
+    minutes = [datetime.datetime(s.year, s.month, s.day, s.hour, s.minute) for s in (before, after)]
+    if minutes[0] == minutes[1]:
+        return after.second == before.second + 1
+    return minutes[1] - minutes[0] == datetime.timedelta(minutes=1) and before.second >= 59 and after.second == 0
+
+
+def afresh(seconds):
+    """The runs of seconds, worked out from all of them."""
+    ends = [place for place, pair in enumerate(zip(seconds, seconds[1:]), 1) if not follows(*pair)]
+    parts = [seconds[begin:end] for begin, end in zip([0, *ends], [*ends, len(seconds)]) if begin < end]
+    return [ls.Run(part[0], part[-1], len(part)) for part in parts]
+
+
+def added(before, after):
+    """What is told of a second behind another one, and the rows."""
+    runs = ls.Runs()
+    same((runs.add(record_at(before)), runs.rows, runs.used), ("opened", [alone(before)], 1), f"{before} in an empty table")
+    return runs.add(record_at(after)), runs.rows
+
+
+def test_next_second():
+    """Around the ends of minutes, hours, days, months and years, second 60 included, each with each."""
+    moments = [datetime.datetime(*told) for told in ((1980, 1, 1), (1980, 2, 29), (1991, 1, 1), (1999, 12, 31, 23, 59, 59), (2000, 2, 28, 23, 59, 59),
+               (2000, 2, 29, 23, 59, 59), (2023, 2, 28, 23, 59, 59), (2024, 4, 30, 23, 59, 59), (2024, 5, 1, 11, 59, 59), (2024, 5, 1, 12, 0, 30))]
+    for moment in moments:
+        near = {second_at(moment + datetime.timedelta(seconds=away)) for away in (0, 1, 2, 3600, 86400)}
+        near |= {second_at(moment - datetime.timedelta(seconds=away)) for away in (1, 2, 60, 86400) if moment.year > 1980}
+        near |= {dataclasses.replace(second, second=60) for second in near}
+        for before in sorted(near, key=str):
+            for after in sorted(near, key=str):
+                joins = follows(before, after)
+                expected = ("joined", [ls.Run(before, after, 2)]) if joins else ("opened", [alone(before), alone(after)])
+                same(added(before, after), expected, f"{after} behind {before}")
+
+
+def test_last_minute():
+    """Nothing follows the last minute of 2079, and 80 to 99 are no years behind it."""
+    last, first = ls.Second(2079, 12, 31, 23, 59, 59), ls.Second(1980, 1, 1, 0, 0, 0)
+    leap = dataclasses.replace(last, second=60)
+    same(added(last, leap)[0], "joined", "second 60 of the last minute")
+    for before in (last, leap):
+        same(added(before, first)[0], "opened", f"{first} behind {before}")
+        same(number_of(ls.Runs().add, ls.Record(0, 0, 0, ls.Date(2080, 1, 1))), 14, "a second of 2080")
+    same(added(ls.Second(1999, 12, 31, 23, 59, 60), ls.Second(2000, 1, 1, 0, 0, 0))[0], "joined", "from 1999 to 2000")
+
+
+def test_every_midnight():
+    """The first second of each day of 1980 to 2079 follows the last one of the day before, and of no other day."""
+    runs, wrong, day = ls.Runs(), [], datetime.date(1980, 1, 1)
+    for _ in range(36525):
+        date = ls.Date(day.year, day.month, day.day)
+        told = runs.add(ls.Record(date=date))
+        runs.take()
+        again = runs.add(ls.Record(23, 59, 59, date)), runs.add(ls.Record(date=date))
+        runs = ls.Runs.of(runs.rows[:1] + [None] * 63, 1)
+        if (told, *again) != ("opened" if date == ls.Date(1980, 1, 1) else "joined", "opened", "opened"):
+            wrong.append((date, told, *again))
+        day += datetime.timedelta(1)
+    same((wrong[:5], day), ([], datetime.date(2080, 1, 1)), "the days of 1980 to 2079")
+
+
+def test_leap_second():
+    """That of 2016 in the sample, whose damaged strings, 23:59:54 and 23:59:58, were not heard."""
+    runs = ls.Runs()
+    records = [found.record for found in ls.heard("standard", (ROOT / "samples/standard.log").read_bytes())]
+    told = [runs.add(record) for record in records]
+    seconds = [ls.Second(r.date.year, r.date.month, r.date.day, r.hour, r.minute, r.second) for r in records]
+    check(ls.Second(2016, 12, 31, 23, 59, 60) in seconds, "the sample has no leap second")
+    same(runs.rows, afresh(seconds), "the runs of the sample")
+    same([str(run.first)[-8:] for run in runs.rows][:3], ["23:59:51", "23:59:55", "23:59:59"], "where the runs of the sample begin")
+    same((told.count("opened"), told.count("joined")), (len(runs.rows), len(told) - len(runs.rows)), "what was told")
+    same(sum(run.count for run in runs.rows), len(records), "the seconds counted")
+
+
+def wandering(source, length):
+    """Seconds that mostly go on from one to the next, over ends of minutes and of days."""
+    moment, seconds = datetime.datetime(2024, 2, 28, 23, 58, 30), []
+    while len(seconds) < length:
+        seconds.append(second_at(moment))
+        if moment.second == 59 and source.random() < 0.5:
+            seconds.append(dataclasses.replace(seconds[-1], second=60))
+        away = 1 if source.random() < 0.9 else source.choice((0, -1, 2, 25, 60, 86400, -86400))
+        moment += datetime.timedelta(seconds=away)
+    return seconds
+
+
+def test_runs_afresh():
+    """More runs than rows: taken out whenever a row is wanting, they are those worked out afresh; records that tell no second change nothing."""
+    source = random.Random(206)
+    for length in (0, 1, 2, 100, 3000, 3000):
+        seconds = wandering(source, length)[:length]
+        runs, heard, tables = ls.Runs(), [], 0
+        for place, second in enumerate(seconds):
+            if number_of(runs.add, record_at(second, sync=True)) == 15:
+                same((runs.used, runs.rows), (64, afresh(seconds[:place])[len(heard) :]), "a full table")
+                heard += runs.take()
+                same((runs.used, runs.rows, runs.add(record_at(second))), (0, [], "opened"), "behind a full table")
+                tables += 1
+            if source.random() < 0.1:
+                same(number_of(runs.add, ls.Record(second.hour, second.minute, second.second, ls.DayOfYear(60))), 14, "a day of year")
+        same(heard + runs.take(), afresh(seconds), f"the runs of {length} seconds")
+        check(length < 3000 or tables > 2, f"only {tables} full tables")
+
+
+def full_table(used=64):
+    """Rows that differ from each other, each of a minute of its own."""
+    rows = [ls.Run(ls.Second(2024, 2, 29, 12 + place // 60, place % 60, 0), ls.Second(2024, 2, 29, 12 + place // 60, place % 60, 7), 8 + place) for place in range(64)]
+    return rows, used
+
+
+def lent(runs):
+    """The rows as the library was lent them, those that are not in use too."""
+    seconds = [[[getattr(second, name) for name, _ in second._fields_] for second in (row.first, row.last)] for row in runs._table]
+    return [(*first, *last, row.count) for (first, last), row in zip(seconds, runs._table)]
+
+
+def numbers_of(rows):
+    seconds = [[(s.year % 100, s.month, s.day, s.hour, s.minute, s.second) for s in (row.first, row.last)] for row in rows]
+    return [(*first, *last, row.count) for (first, last), row in zip(seconds, rows)]
+
+
+def test_one_row_is_changed():
+    """Of those that are handed out, and of those that the library is lent."""
+    for used in range(65):
+        rows, _ = full_table()
+        runs, other = ls.Runs.of(rows, used), ls.Second(1991, 6, 30, 23, 59, 60)
+        if used:
+            newest = rows[used - 1]
+            after = dataclasses.replace(newest.last, second=8)
+            same(runs.add(record_at(after)), "joined", f"{used} in use")
+            rows[used - 1] = ls.Run(newest.first, after, newest.count + 1)
+        same((runs.used, runs.rows, lent(runs)), (used, rows[:used], numbers_of(rows)), f"{used} in use, joined")
+        if used == 64:
+            same(number_of(runs.add, record_at(other)), 15, "a row behind the last")
+        else:
+            same(runs.add(record_at(other)), "opened", f"{used} in use")
+            rows[used], used = alone(other), used + 1
+        same((runs.used, runs.rows, lent(runs)), (used, rows[:used], numbers_of(rows)), f"{used} in use, opened")
+
+
+def test_no_second():
+    """Every bad record, with a full date where it has none of its own; before a row is wanting."""
+    date = {"date": ls.Date(2024, 2, 29)}
+    wrong = [{**date, **fields} for fields in bad_records()] + [{}, {"date": None, "sync": True}, {"date": ls.DayOfYear(60)}, {**date, "utc": True, "summer": True}]
+    check(len(wrong) > 100, "few bad records")
+    for used in (0, 1, 64):
+        runs = ls.Runs.of(*full_table(used))
+        for fields in wrong:
+            same(number_of(runs.add, ls.Record(**fields)), 14, f"{fields}, {used} in use")
+        same((runs.used, runs.rows, lent(runs)), (used, full_table()[0][:used], numbers_of(full_table()[0])), "after records that tell no second")
+    check("Record" in raises(TypeError, ls.Runs().add, {}), "a dict for a record")
+    check(" not " in raises(TypeError, ls.Runs().add, ls.Record(1.0, **date)), "a number with a point for an hour")
+
+
+def impossible_seconds():
+    """Seconds that the calendar does not have, and those that it would have if cut to 32 bits or to two digits."""
+    good = ls.Second(2024, 2, 29, 12, 0, 7)
+    for name, values in (("year", (24, 91, 1924, 1979, 2080, 2091, 2124)), ("month", (0, 13)), ("day", (0, 30)), ("hour", (24,)), ("minute", (60,)), ("second", (61,))):
+        for value in (*values, -1, 100, 2**32 - 1, 2**32 + getattr(good, name), 2**64):
+            yield dataclasses.replace(good, **{name: value})
+    yield dataclasses.replace(good, year=2023)
+
+
+def bad_tables():
+    """Rows and the number in use of tables that no calls made."""
+    rows, _ = full_table()
+    for length in (0, 1, 8, 63, 65, 128):
+        for used in (0, min(length, 8)):
+            yield (rows * 2)[:length], used
+    for used in (65, 66, 128, 2**32 - 1, 2**32, 2**32 + 8, 2**64 + 8, -1, -(2**32) + 8):
+        yield rows * 1, used
+    for used in (1, 64):
+        for last in impossible_seconds():
+            yield rows[: used - 1] + [ls.Run(rows[0].first, last, 8)] + rows[used:], used
+        for count in (4_000_000_001, 2**32 - 1, 2**32, 2**32 + 8, -1):
+            yield rows[: used - 1] + [ls.Run(rows[0].first, rows[0].last, count)] + rows[used:], used
+
+
+def test_bad_tables():
+    """Refused before the record is looked at, and left as they are."""
+    tables = list(bad_tables())
+    check(len(tables) > 100, "few bad tables")
+    for rows, used in tables:
+        for record in (ls.Record(12, 0, 8, ls.Date(2024, 2, 29)), ls.Record()):
+            runs = ls.Runs.of(rows, used)
+            same(number_of(runs.add, record), 21, f"{len(rows)} rows, {used} in use")
+            same((runs.used, runs.rows), (used, rows[: max(used, 0)]), f"{len(rows)} rows, {used} in use, afterwards")
+        same((len(runs.take()), runs.used, runs.add(ls.Record(date=ls.Date(2024, 1, 1)))), (len(rows[: max(used, 0)]), 0, "opened"), "a bad table emptied")
+
+
+def test_what_is_not_looked_at():
+    """All rows but the newest, and the newest one's first second; a count of 0 and the largest one grow."""
+    after, other = ls.Second(2024, 2, 29, 12, 0, 8), ls.Second(1991, 6, 30, 23, 59, 60)
+    for wrong in impossible_seconds():
+        for count in (0, 8, 4_000_000_000):
+            rows = [ls.Run(wrong, wrong, 2**32 - 1)] * 64
+            rows[3] = ls.Run(wrong, dataclasses.replace(after, second=7), count)
+            runs = ls.Runs.of(rows, 4)
+            same((runs.add(record_at(other)), runs.rows), ("opened", [*rows[:4], alone(other)]), f"a row opened where {wrong} stands")
+            runs = ls.Runs.of(rows, 4)
+            same((runs.add(record_at(after)), runs.used), ("joined", 4), f"{wrong} in other places")
+            same(runs.rows, [*rows[:3], ls.Run(wrong, after, count + 1)], f"{wrong} in other places, afterwards")
+            same(number_of(runs.add, record_at(dataclasses.replace(after, second=9))), 21 if count > 8 else 0, f"behind a count of {count + 1}")
+
+
+def test_rows_of_another_type():
+    rows, _ = full_table()
+    second = rows[0].first
+    for wrong in (0, "row", second, (second, second, 1), {}):
+        check(" not " in raises(TypeError, ls.Runs.of, [wrong] + rows[1:], 1), f"{wrong!r} for a row")
+    for wrong in (None, "12:00:00", ls.Date(2024, 1, 1), datetime.datetime(2024, 1, 1)):
+        check(" not " in raises(TypeError, ls.Runs.of, [ls.Run(wrong, second, 1)] + rows[1:], 1), f"{wrong!r} for a second")
+    for wrong in (None, 1.0, True, "1"):
+        check(" not " in raises(TypeError, ls.Runs.of, rows, wrong), f"{wrong!r} for the number in use")
+        check(" not " in raises(TypeError, ls.Runs.of, [ls.Run(second, second, wrong)] + rows[1:], 1), f"{wrong!r} for a count")
+        check(" not " in raises(TypeError, ls.Runs.of, [alone(dataclasses.replace(second, hour=wrong))] + rows[1:], 1), f"{wrong!r} for an hour")
+    check("None" in raises(TypeError, ls.Runs.of, [None] * 64, 1), "None for a row in use")
+    same(ls.Runs.of([None] * 64, 0).rows, [], "rows that are not in use")
+
+
+def test_runs_are_values():
+    """What is handed out is the caller's, and cannot be changed from outside."""
+    runs = ls.Runs()
+    same((ls.Runs.ROWS, runs.used, runs.rows, runs.take()), (64, 0, [], []), "an empty table")
+    second = ls.Second(2024, 2, 29, 12, 0, 7)
+    told = runs.add(record_at(second))
+    check(told is ls.Added.OPENED and told == "opened" and f"{told}" == "opened", f"what is told: {told!r}")
+    runs.rows.clear()
+    same(runs.rows, [alone(second)], "rows, after the list was cleared")
+    kept = [alone(second)] + [None] * 63
+    other = ls.Runs.of(kept, 1)
+    kept[0] = None
+    same((other.add(record_at(dataclasses.replace(second, second=8))), runs.rows), ("joined", [alone(second)]), "two tables")
+    check("cannot assign" in raises(dataclasses.FrozenInstanceError, setattr, second, "second", 8), "a Second is changed")
+    check("cannot assign" in raises(dataclasses.FrozenInstanceError, setattr, runs.rows[0], "count", 8), "a Run is changed")
+    same((second.date, str(second), len({second, dataclasses.replace(second)})), (ls.Date(2024, 2, 29), "2024-02-29 12:00:07", 1), "a Second")
+    same(pickle.loads(pickle.dumps((runs.rows, told))), (runs.rows, told), "rows kept in a file")
+
+
 # ---- Refusals and forms ----
 
 
@@ -661,6 +960,8 @@ BEFORE_KINDS, RECORD_NAMES = (tuple(f"lindenscoop_{name}_{end}" for name in WITH
 #: what counted days from 2000, when all years were of 2000 and later
 BEFORE_1980 = ("lindenscoop_day_number_raw",)
 SAME_NAMES = "lindenscoop_start_raw", "lindenscoop_mark_raw"
+#: those with which it counts from 1980
+SINCE_1980 = "lindenscoop_full_year_raw", "lindenscoop_days_since_1980_raw"
 
 
 def test_names_from_before(made):
@@ -670,7 +971,8 @@ def test_names_from_before(made):
         check("undefined symbol" in raises(AttributeError, getattr, library, name), f"{name} is there, and a module from before would take minutes for degrees or 1991 for 2091")
     for name in SAME_NAMES:
         check(hasattr(library, name), f"there is no {name}")
-    for names, missing in ((BEFORE_KINDS, "lindenscoop_read_numbers"), (RECORD_NAMES, "lindenscoop_full_year_raw")):
+    for names, missing in ((BEFORE_KINDS, "lindenscoop_read_numbers"), (RECORD_NAMES, "lindenscoop_full_year_raw"),
+                           (RECORD_NAMES + SINCE_1980, "lindenscoop_add_second_numbers")):
         with tempfile.TemporaryDirectory() as folder:
             source, older = pathlib.Path(folder, "older.c"), pathlib.Path(folder, "older.so")
             source.write_text("".join(f"unsigned {name}(void) {{ return 0; }}\n" for name in names + SAME_NAMES + BEFORE_1980))
@@ -680,7 +982,7 @@ def test_names_from_before(made):
 
 
 def test_documentation():
-    for name in ("", ".codec", ".days", ".flat", ".form", ".library", ".listener", ".record", ".refusal"):
+    for name in ("", ".codec", ".days", ".flat", ".form", ".library", ".listener", ".record", ".refusal", ".runs"):
         module = importlib.import_module(f"lindenscoop{name}")
         result = doctest.testmod(module)
         counts[True] += result.attempted - result.failed

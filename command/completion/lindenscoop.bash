@@ -16,8 +16,8 @@ _lindenscoop_value() {
         --form) _lindenscoop_words 'standard capture erlangen spa racal sysplex computime sat rmc' "$2" ;;
         --baud) _lindenscoop_words '300 600 1200 2400 4800 9600 19200 38400 57600 115200' "$2" ;;
         --framing) _lindenscoop_words '7E1 7E2 7N2 7O1 7O2 8E1 8E2 8N1 8N2 8O1 8O2' "$2" ;;
-        --record | --to) _lindenscoop_files ;;
-        --damage | --count | --interval) COMPREPLY=() ;;
+        --record | --to | --svg) _lindenscoop_files ;;
+        --damage | --count | --interval | --title) COMPREPLY=() ;;
         *) return 1 ;;
     esac
 }
@@ -26,6 +26,7 @@ _lindenscoop_option() {
     case $1 in
         listen) _lindenscoop_words '--form --baud --framing --record --help' "$2" ;;
         export) _lindenscoop_words '--json --csv --form --baud --framing --help' "$2" ;;
+        runs) _lindenscoop_words '--form --csv --json --svg --title --baud --framing --help' "$2" ;;
         why | write) _lindenscoop_words '--help' "$2" ;;
         simulate) _lindenscoop_words '--pty --to --damage --count --interval --baud --framing --help' "$2" ;;
     esac
@@ -49,9 +50,9 @@ _lindenscoop() {
         before=${COMP_WORDS[COMP_CWORD - 2]}
     fi
     if ((COMP_CWORD == 1)); then
-        _lindenscoop_words 'listen export why write simulate help --help --version' "$current"
+        _lindenscoop_words 'listen export runs why write simulate help --help --version' "$current"
     elif [[ $name == help ]]; then
-        _lindenscoop_words 'listen export why write simulate' "$current"
+        _lindenscoop_words 'listen export runs why write simulate' "$current"
     elif _lindenscoop_value "$before" "$current"; then
         :
     elif [[ $current == -* ]]; then

@@ -4,6 +4,8 @@ use std::time::{SystemTime, UNIX_EPOCH};
 
 use lindenscoop::{Date, Form, Fraction, Position, Record, Refusal};
 
+use crate::calendar;
+
 /// The parts of a second, of the kind that the form carries.
 fn fraction(form: Form, nanoseconds: u32) -> Fraction {
     match form {
@@ -57,24 +59,9 @@ pub fn record(form: Form, now: SystemTime) -> Result<Record, Refusal> {
 /// 1 January 1980, from which the library counts, in days after 1 January 1970, from which this computer does.
 const CALENDAR_BEGINS: u64 = 3_652;
 
-/// The first day of each month of the library's calendar, with its number.
-fn first_days() -> impl Iterator<Item = (u32, u32, u32)> {
-    (0..).map_while(|months| {
-        let (year, month) = (1980 + months / 12, months % 12 + 1);
-        let first = Date::of_full_year(year, month, 1)?;
-        Some((year, month, first.days_since_1980()?))
-    })
-}
-
 /// The date so many days after 1 January 1970, if it is of 1980 to 2079.
 fn date(days: u64) -> Option<Date> {
-    let number = u32::try_from(days.checked_sub(CALENDAR_BEGINS)?).ok()?;
-    let (year, month, first) = first_days()
-        .take_while(|(_, _, first)| *first <= number)
-        .last()?;
-    let date = Date::of_full_year(year, month, number - first + 1)?;
-    // behind the calendar's end the last month has no such day
-    (date.days_since_1980() == Some(number)).then_some(date)
+    calendar::date(u32::try_from(days.checked_sub(CALENDAR_BEGINS)?).ok()?)
 }
 
 #[cfg(test)]

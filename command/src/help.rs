@@ -6,6 +6,7 @@ A field that was not sent is absent, never 0; a damaged string is refused.
 
   lindenscoop listen /dev/ttyUSB0 --form standard     print what a clock sends
   lindenscoop export --csv --form standard clock.log  a log as CSV or JSON
+  lindenscoop runs --form standard clock.log          which seconds were heard
   lindenscoop why clock.log                           why a log is silent
   lindenscoop write racal < records.json              strings of JSON lines
   lindenscoop simulate standard --pty                 strings without a clock
@@ -61,6 +62,40 @@ into degrees. A fraction has 2, 3 or 7 digits, as it was sent. With several file
 begins with the file's name. `lindenscoop write` makes the strings of the JSON lines again.
 
 Exit status: 0 heard, 1 nothing heard, 2 a wrong call, 3 a read or write failed.
+";
+
+pub const RUNS: &str = "\
+lindenscoop runs --form FORM [--csv | --json] [--svg PICTURE] [--title TEXT] FILE|-
+
+Tells which seconds were heard: a line for each run of seconds that follow each other, and
+between two runs a line for the seconds that are missing, with the first and the last of
+them and how many they are; then a line with the sums.
+
+  --form FORM     standard, capture, erlangen, spa, racal, sysplex, computime, sat, rmc,
+                  or 1 to 7, 10 and 12
+  --csv           a line of names, then a row for each line: kind,first,last,seconds
+  --json          an object to a line, with these keys; with both the sums come on standard
+                  error
+  --svg PICTURE   draws heard and missing seconds in a new file; - prints the picture in
+                  place of the list
+  --title TEXT    the picture's title, the log's name if not given
+  --baud, --framing   where the log is a serial port, as for listen
+
+A line is heard, missing, repeat (the next second is the same again) or back (the next second
+is earlier, by so many seconds: the clock was set back, or summer time ended). A repeat has no
+first, last and seconds, and back no first and last: empty cells in CSV, null in JSON, never 0.
+
+A minute is counted as 60 seconds. A second 60 that was heard is in its run; one that was not
+heard is not missing, since nobody knows that there was one. Times are as the clock sent them.
+Records without a full date, as all of sysplex, tell no second: they are passed over and
+counted, with the refusal 14.
+
+A picture has a line for a minute, ten minutes, an hour or a day, so that it is a page. It
+counts each second once, however often it was heard, from the earliest to the latest.
+
+  lindenscoop runs --form standard --svg hall.svg --title 'Great hall, rack A' clock.log
+
+Exit status: 0 a second was heard, 1 none, 2 a wrong call, 3 a read or write failed.
 ";
 
 pub const WHY: &str = "\
@@ -155,6 +190,7 @@ mod tests {
         }
         assert_eq!(listed(LISTEN, "--form FORM  "), serial);
         assert_eq!(listed(EXPORT, "--form FORM  "), serial);
+        assert_eq!(listed(RUNS, "--form FORM  "), serial);
         assert_eq!(listed(WRITE, "  FORM  "), every);
         assert_eq!(listed(SIMULATE, "  FORM  "), every);
     }

@@ -63,7 +63,8 @@ fn print_block(out: &mut Vec<u8>, _: u64, record: &Record) {
     out.push(b'\n');
 }
 
-fn note_start(source: &Source, arguments: &Arguments, line: &Line, form: &str) {
+/// Says on what is listened, and what options are for nothing.
+pub fn note_start(source: &Source, arguments: &Arguments, line: &Line, form: &str) {
     if source.is_port() {
         style::note(&format!(
             "listening on {} at {} {} for {form}; Ctrl-C ends it",

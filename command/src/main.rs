@@ -1,26 +1,35 @@
-//! The command `lindenscoop`: listens to satellite clocks, exports logs, explains silent ones, writes and simulates time strings.
+//! The command `lindenscoop`: listens to satellite clocks, exports logs, tells which seconds were heard, explains silent logs, writes and simulates time strings.
 //!
 //! Exit status: 0 heard, 1 nothing heard, 2 a wrong call, 3 a read or write failed.
 
 mod arguments;
+mod calendar;
 mod cells;
 mod clock;
 mod damage;
 mod export;
 mod failure;
 mod forms;
+mod gaps;
+mod hearing;
 mod help;
 mod hints;
 mod json;
 mod layout;
 mod listen;
+mod listing;
+mod moment;
+mod new_file;
 mod output;
+mod picture;
+mod picture_target;
 mod port;
 mod progress;
 mod record_json;
 mod recording;
 mod repairs;
 mod rmc;
+mod runs;
 mod scan;
 mod simulate;
 mod source;
@@ -41,9 +50,10 @@ use output::Output;
 
 type Run = fn(Vec<OsString>) -> Result<bool, Failure>;
 
-const COMMANDS: [(&str, Run, &str); 5] = [
+const COMMANDS: [(&str, Run, &str); 6] = [
     ("listen", listen::run, help::LISTEN),
     ("export", export::run, help::EXPORT),
+    ("runs", runs::run, help::RUNS),
     ("why", why::run, help::WHY),
     ("write", write::run, help::WRITE),
     ("simulate", simulate::run, help::SIMULATE),

@@ -19,8 +19,10 @@ from .form import Form
 from .listener import Listener, heard
 from .record import Date, DayOfYear, Fraction, Hundredths, Position, PositionInMinutes, Record
 from .refusal import Refusal, Refused
+from .runs import Added, Run, Runs, Second
 
 __all__ = [
+    "Added",
     "Date",
     "DayOfYear",
     "Form",
@@ -33,6 +35,9 @@ __all__ = [
     "Record",
     "Refusal",
     "Refused",
+    "Run",
+    "Runs",
+    "Second",
     "days_since_1980",
     "heard",
     "read",

@@ -17,7 +17,8 @@ def _whole(value: int, what: str) -> int:
     return value
 
 
-def _number(value: int, what: str) -> int:
+def number(value: int, what: str) -> int:
+    """A number as it is handed over; what is no whole number is a TypeError."""
     return crossing(_whole(value, what))
 
 
@@ -31,7 +32,7 @@ def _flag(value: Optional[bool], what: str) -> int:
     return 0 if value is None else 1 + value
 
 
-def _full_year(yy: int) -> int:
+def full_year(yy: int) -> int:
     """The year with its century that two digits mean, as the library says."""
     year = ctypes.c_uint32()
     if LIBRARY.lindenscoop_full_year_raw(yy, year):
@@ -43,7 +44,7 @@ def full_date(date: Date) -> List[int]:
     """Two digits of the year, month and day in which a date crosses; a year that no two digits mean is handed over as OUTSIDE."""
     year = _whole(date.year, "year")
     yy = year % 100
-    return [yy if _full_year(yy) == year else OUTSIDE, _number(date.month, "month"), _number(date.day, "day")]
+    return [yy if full_year(yy) == year else OUTSIDE, number(date.month, "month"), number(date.day, "day")]
 
 
 def _date(date: Optional[Union[Date, DayOfYear]]) -> List[int]:
@@ -52,7 +53,7 @@ def _date(date: Optional[Union[Date, DayOfYear]]) -> List[int]:
     if isinstance(date, Date):
         return [1, *full_date(date), 0]
     if isinstance(date, DayOfYear):
-        return [2, 0, 0, 0, _number(date.day, "day of year")]
+        return [2, 0, 0, 0, number(date.day, "day of year")]
     raise TypeError(f"a date is a Date, a DayOfYear or None, not {date!r}")
 
 
@@ -61,9 +62,9 @@ def _fraction(fraction: Optional[Union[Fraction, Hundredths]]) -> List[int]:
         return [0, 0]
     if isinstance(fraction, Fraction):
         kind = KINDS_OF_FRACTION.get(_whole(fraction.digits, "digits"), OUTSIDE)
-        return [kind, _number(fraction.value, "fraction")]
+        return [kind, number(fraction.value, "fraction")]
     if isinstance(fraction, Hundredths):
-        return [HUNDREDTHS, _number(fraction.hundredths, "hundredths")]
+        return [HUNDREDTHS, number(fraction.hundredths, "hundredths")]
     raise TypeError(f"a fraction is a Fraction, Hundredths or None, not {fraction!r}")
 
 
@@ -72,7 +73,7 @@ def _position(position: Optional[Union[Position, PositionInMinutes]]) -> List[in
         return [0, 0, 0, 0, 0, 0]
     if isinstance(position, Position):
         latitude, longitude = _signed(position.latitude, "latitude"), _signed(position.longitude, "longitude")
-        return [1, *latitude, *longitude, _number(position.altitude, "altitude")]
+        return [1, *latitude, *longitude, number(position.altitude, "altitude")]
     if isinstance(position, PositionInMinutes):
         latitude, longitude = _signed(position.latitude_hundredths, "latitude"), _signed(position.longitude_hundredths, "longitude")
         return [2, *latitude, *longitude, 0]
@@ -83,22 +84,22 @@ def encode(record: Record) -> List[int]:
     """The numbers in which the record crosses."""
     if not isinstance(record, Record):
         raise TypeError(f"a Record is needed, not {record!r}")
-    numbers = [_number(record.hour, "hour"), _number(record.minute, "minute"), _number(record.second, "second")]
+    numbers = [number(record.hour, "hour"), number(record.minute, "minute"), number(record.second, "second")]
     numbers += _date(record.date) + _fraction(record.fraction)
-    numbers += [0, 0] if record.channel is None else [1, _number(record.channel, "channel")]
+    numbers += [0, 0] if record.channel is None else [1, number(record.channel, "channel")]
     numbers += [_flag(getattr(record, name), name) for name in FLAGS]
     numbers += [0, 0, 0] if record.offset is None else [1, *_signed(record.offset, "offset")]
     return numbers + _position(record.position) + [_flag(record.dsp, "dsp"), _flag(record.lsp, "lsp")]
 
 
-def _flag_of(number: int) -> Optional[bool]:
-    return None if number == 0 else number == 2
+def _flag_of(flag: int) -> Optional[bool]:
+    return None if flag == 0 else flag == 2
 
 
 def _date_of(n: Sequence[int]) -> Optional[Union[Date, DayOfYear]]:
     if n[3] == 0:
         return None
-    return Date(_full_year(n[4]), n[5], n[6]) if n[3] == 1 else DayOfYear(n[7])
+    return Date(full_year(n[4]), n[5], n[6]) if n[3] == 1 else DayOfYear(n[7])
 
 
 def _fraction_of(n: Sequence[int]) -> Optional[Union[Fraction, Hundredths]]:

@@ -8,6 +8,7 @@ NAME = "liblindenscoop.so.0.1"
 RECORD_NUMBERS = 29
 LISTENER_BYTES = 70
 LONGEST_STRING = 174
+ROWS = 64
 
 #: what feed_all answers for a record handed out
 HEARD = 100
@@ -17,6 +18,31 @@ OUTSIDE = 2**32 - 1
 
 Numbers = ctypes.c_uint32 * RECORD_NUMBERS
 State = ctypes.c_uint8 * LISTENER_BYTES
+
+
+class RecordByValue(ctypes.Structure):
+    """A record's numbers as the struct of lindenscoop.h: a field for each, since an array crosses as a pointer in some versions of ctypes."""
+
+    _fields_ = [(f"number_{place}", ctypes.c_uint32) for place in range(RECORD_NUMBERS)]
+
+
+class SecondNumbers(ctypes.Structure):
+    """A second of the calendar, its year as two digits."""
+
+    _fields_ = [(name, ctypes.c_uint32) for name in ("yy", "month", "day", "hour", "minute", "second")]
+
+
+class Row(ctypes.Structure):
+    """A row of a table of runs."""
+
+    _fields_ = [("first", SecondNumbers), ("last", SecondNumbers), ("count", ctypes.c_uint32)]
+
+
+class AddedNumbers(ctypes.Structure):
+    """What adding a second answers, and the number of rows in use."""
+
+    _fields_ = [("answer", ctypes.c_uint32), ("used", ctypes.c_uint32)]
+
 
 _size = ctypes.c_size_t
 _place = ctypes.POINTER(ctypes.c_size_t)
@@ -30,7 +56,10 @@ _FUNCTIONS = {
     "lindenscoop_feed_all_numbers": [_state, _size, ctypes.c_void_p, _size, _place, _numbers, _size],
     "lindenscoop_full_year_raw": [ctypes.c_uint32, _numbers],
     "lindenscoop_days_since_1980_raw": [ctypes.c_uint32, ctypes.c_uint32, ctypes.c_uint32, _numbers],
+    "lindenscoop_add_second_numbers": [ctypes.POINTER(Row), _size, ctypes.c_uint32, RecordByValue],
 }
+#: those that answer more than a number
+_ANSWERS = {"lindenscoop_add_second_numbers": AddedNumbers}
 
 
 def crossing(value: int) -> int:
@@ -67,7 +96,7 @@ def _load() -> ctypes.CDLL:
                 f"lindenscoop: {candidates[0]} has no {name}, so it is of another version than this module. Install both of one version, or set "
                 "LINDENSCOOP_LIBRARY to the path of the right one."
             )
-        function.argtypes, function.restype = types, ctypes.c_uint32
+        function.argtypes, function.restype = types, _ANSWERS.get(name, ctypes.c_uint32)
     return library
 
 

@@ -6,17 +6,20 @@
  * state of its own, so any number of threads may call at the same time on buffers of their own.
  *
  * There are two layers. The exported functions, whose contracts are proved, take each buffer as a pointer and a length, in
- * elements: lindenscoop_..._numbers a record as its 29 numbers, lindenscoop_..._raw no record. crates/lindenscoop/specs defines
- * what they answer, the comments here say it in words. Over them stands what a C program calls: lindenscoop_read and so on,
- * which take the structs below, lindenscoop_full_year and lindenscoop_days_since_1980, for years with their century, and
- * lindenscoop_get_offset and so on, which say whether a field of a record is there and hand out its value. A flag of no is stored
- * as 1 and the number of an absent field as 0, so `if (record.sync)` and a bare `record.offset_minutes` would mislead.
+ * elements: bytes, numbers or rows. lindenscoop_..._numbers takes a record as its 29 numbers, lindenscoop_..._raw no record. All
+ * return the answer, and store what else there is behind pointers, but for lindenscoop_add_second_numbers: it takes the numbers by
+ * value, as the struct whose fields they are, and returns the answer and a number beside it in a struct. crates/lindenscoop/specs
+ * defines what they answer, the comments here say it in words. Over them stands what a C program calls: lindenscoop_read and so on,
+ * which take the structs below, lindenscoop_full_year and lindenscoop_days_since_1980, for years with their century,
+ * lindenscoop_add_second, for the seconds that were heard, and lindenscoop_get_offset and so on, which say whether a field of a
+ * record is there and hand out its value. A flag of no is stored as 1 and the number of an absent field as 0, so
+ * `if (record.sync)` and a bare `record.offset_minutes` would mislead.
  *
- * Until form 12 came, those that take a record were named ..._raw too. A fraction and a position had fewer kinds then, and code
- * that tests number 21 for "not 0" alone would read minutes of arc as degrees. By the old names it does not link, and what was
- * linked before does not run. Code that calls them by the new ones looks at the kinds first: at number 8, counted from 0, that of
- * the fraction, before number 9, and at number 21, that of the position, before numbers 22 to 26. Number 4, the two digits of a
- * year, it hands to lindenscoop_full_year_raw.
+ * Until form 12 came, those that take a record behind a pointer were named ..._raw too. A fraction and a position had fewer kinds
+ * then, and code that tests number 21 for "not 0" alone would read minutes of arc as degrees. By the old names it does not link, and
+ * what was linked before does not run. Code that calls them by the new ones looks at the kinds first: at number 8, counted from 0,
+ * that of the fraction, before number 9, and at number 21, that of the position, before numbers 22 to 26. Number 4, the two digits
+ * of a year, it hands to lindenscoop_full_year_raw.
  *
  * What the exported functions ask of their caller, and nothing else:
  *   - a pointer is not null, also where the length behind it is 0, and is aligned for its type;
@@ -27,7 +30,8 @@
  * What every one of them does:
  *   - fewer than 29 numbers for a record, or fewer than 70 bytes for a listener, are refused with
  *     LINDENSCOOP_SHORT_BUFFER before all else, and no buffer is changed. The numbers and bytes behind these are
- *     neither looked at nor changed;
+ *     neither looked at nor changed. A table of runs with any other number of rows than 64, fewer or more, is refused with
+ *     LINDENSCOOP_BAD_TABLE before all else;
  *   - a call that is refused otherwise leaves every buffer as it was, but for these: a refused read or search stores
  *     the empty record, a start that is refused with 1 stores a state that answers every byte with 11, and 13 moves
  *     the listener on;
@@ -89,6 +93,9 @@ enum {
     LINDENSCOOP_BAD_STATE = 11,
     LINDENSCOOP_NOT_FOUND = 12,
     LINDENSCOOP_OVERLAP = 13,
+    LINDENSCOOP_NO_SECOND = 14,
+    LINDENSCOOP_NO_ROW = 15,
+    LINDENSCOOP_BAD_TABLE = 21,
     LINDENSCOOP_HEARD = 100           /* feed: a record is handed out */
 };
 
@@ -107,11 +114,12 @@ enum {
     LINDENSCOOP_YES = 2               /* sync .. lsp */
 };
 
-/* Sizes: of a record in numbers, of a listener and of the longest string in bytes. */
+/* Sizes: of a record in numbers, of a listener and of the longest string in bytes, of a table of runs in rows. */
 enum {
     LINDENSCOOP_RECORD_NUMBERS = 29,
     LINDENSCOOP_LISTENER_BYTES = 70,
-    LINDENSCOOP_LONGEST_STRING = 174
+    LINDENSCOOP_LONGEST_STRING = 174,
+    LINDENSCOOP_ROWS = 64
 };
 
 /* The version of a listener's layout. It changes whenever the layout does. */
@@ -172,10 +180,43 @@ typedef struct lindenscoop_listener {
     uint8_t bytes[LINDENSCOOP_LISTENER_BYTES];
 } lindenscoop_listener;
 
-/* The structs are copied to and from the numbers and bytes that the exported functions take, so each field must stand where its
-   number does, and nothing between them. */
+/* A second of the calendar, as a record with a full date tells it. */
+typedef struct lindenscoop_second {
+    uint32_t yy;                      /* as in a record: 80..99 mean 1980 to 1999, 0..79 mean 2000 to 2079 */
+    uint32_t month;
+    uint32_t day;
+    uint32_t hour;                    /* 0..23 */
+    uint32_t minute;                  /* 0..59 */
+    uint32_t second;                  /* 0..60 */
+} lindenscoop_second;
+
+/* A run of seconds that were heard one after the other, each the next of the one before: a row of a table. */
+typedef struct lindenscoop_run {
+    lindenscoop_second first;
+    lindenscoop_second last;
+    uint32_t count;                   /* of the seconds, first and last included */
+} lindenscoop_run;
+
+/* What lindenscoop_add_second_numbers answers: LINDENSCOOP_OK or a refusal, and how many rows are in use now. */
+typedef struct lindenscoop_added {
+    uint32_t answer;
+    uint32_t used;
+} lindenscoop_added;
+
+/* A table of runs, in the order in which they were opened: the first `used` rows are in use, and what stands in the others is never
+   looked at. lindenscoop_runs_clear makes it empty. It may be stored and added to later. Any numbers are safe to hand in: where
+   `used` or the newest row shows that no calls made the table, each record is refused with LINDENSCOOP_BAD_TABLE, and it is left
+   as it is. */
+typedef struct lindenscoop_runs {
+    lindenscoop_run rows[LINDENSCOOP_ROWS];
+    uint32_t used;
+} lindenscoop_runs;
+
+/* The structs are copied to and from the numbers and bytes that the exported functions take, or are taken by them as they are, so
+   each field must stand where its number does, and nothing between them. */
 #define LINDENSCOOP_ASSERT(name, test) typedef char lindenscoop_##name[(test) ? 1 : -1]
-#define LINDENSCOOP_AT(field, place) LINDENSCOOP_ASSERT(place_of_##field, offsetof(lindenscoop_record, field) == place * sizeof(uint32_t))
+#define LINDENSCOOP_IN(name, field, place) LINDENSCOOP_ASSERT(place_of_##field##_in_##name, offsetof(lindenscoop_##name, field) == place * sizeof(uint32_t))
+#define LINDENSCOOP_AT(field, place) LINDENSCOOP_IN(record, field, place)
 LINDENSCOOP_ASSERT(record_has_no_padding, sizeof(lindenscoop_record) == LINDENSCOOP_RECORD_NUMBERS * sizeof(uint32_t));
 LINDENSCOOP_ASSERT(listener_has_no_padding, sizeof(lindenscoop_listener) == LINDENSCOOP_LISTENER_BYTES);
 LINDENSCOOP_AT(hour, 0); LINDENSCOOP_AT(minute, 1); LINDENSCOOP_AT(second, 2); LINDENSCOOP_AT(date, 3);
@@ -186,7 +227,15 @@ LINDENSCOOP_AT(summer, 15); LINDENSCOOP_AT(change, 16); LINDENSCOOP_AT(leap, 17)
 LINDENSCOOP_AT(offset_negative, 19); LINDENSCOOP_AT(offset_minutes, 20); LINDENSCOOP_AT(position, 21);
 LINDENSCOOP_AT(south, 22); LINDENSCOOP_AT(latitude_units, 23); LINDENSCOOP_AT(west, 24); LINDENSCOOP_AT(longitude_units, 25);
 LINDENSCOOP_AT(altitude_metres, 26); LINDENSCOOP_AT(dsp, 27); LINDENSCOOP_AT(lsp, 28);
+LINDENSCOOP_ASSERT(second_has_no_padding, sizeof(lindenscoop_second) == 6 * sizeof(uint32_t));
+LINDENSCOOP_ASSERT(run_has_no_padding, sizeof(lindenscoop_run) == 13 * sizeof(uint32_t));
+LINDENSCOOP_ASSERT(added_has_no_padding, sizeof(lindenscoop_added) == 2 * sizeof(uint32_t));
+LINDENSCOOP_IN(second, yy, 0); LINDENSCOOP_IN(second, month, 1); LINDENSCOOP_IN(second, day, 2);
+LINDENSCOOP_IN(second, hour, 3); LINDENSCOOP_IN(second, minute, 4); LINDENSCOOP_IN(second, second, 5);
+LINDENSCOOP_IN(run, first, 0); LINDENSCOOP_IN(run, last, 6); LINDENSCOOP_IN(run, count, 12);
+LINDENSCOOP_IN(added, answer, 0); LINDENSCOOP_IN(added, used, 1);
 #undef LINDENSCOOP_AT
+#undef LINDENSCOOP_IN
 #undef LINDENSCOOP_ASSERT
 
 /* ---- The exported functions. The numbers are those of a record in the order of the struct. ---- */
@@ -239,6 +288,17 @@ LINDENSCOOP_NOT_NULL uint32_t lindenscoop_full_year_raw(uint32_t yy, uint32_t *y
 /* The days from 1 January 1980 to a date, in *days: 0 for that day itself, 36524 for 31 December 2079.
    4: there is no such date (a yy above 99, a month that is none, a day that the month does not have); *days is 0. */
 LINDENSCOOP_NOT_NULL uint32_t lindenscoop_days_since_1980_raw(uint32_t yy, uint32_t month, uint32_t day, uint32_t *days);
+
+/* Adds the second that a record tells to a table of runs, of which the first `used` rows are in use. It joins the newest run, row
+   used - 1, if it is the next of that run's last one: it becomes the last one, and the count grows by one. 59 is followed by 60 of
+   its minute or by second 0 of the next minute, 60 by second 0 of the next minute, and nothing follows the last minute of 2079. Any
+   other second, a repeat and one before included, becomes row `used`, as a run of its own, and the number in use grows by one.
+   Tested in this order:
+   21: rows_length is not 64, used is above 64, or the newest row has a last second that the calendar does not have or a count above
+   4000000000. 14: the record has no full date, or is bad, numbers that are no record included. 15: the second joins no run, and 64
+   rows are in use. A refusal changes no row, and the number in use is then the one that was handed in. No other row than the newest
+   is looked at, and none but the one that is written is changed. */
+LINDENSCOOP_NOT_NULL lindenscoop_added lindenscoop_add_second_numbers(lindenscoop_run *rows, size_t rows_length, uint32_t used, lindenscoop_record record);
 #undef LINDENSCOOP_NOT_NULL
 
 #ifdef __cplusplus
@@ -346,6 +406,33 @@ static inline uint32_t lindenscoop_days_since_1980(uint32_t year, uint32_t month
     return lindenscoop_days_since_1980_raw(lindenscoop_two_digits(year), month, day, days);
 }
 
+/* Makes a table of runs empty: before its first use, and when its rows were taken out. */
+static inline void lindenscoop_runs_clear(lindenscoop_runs *runs)
+{
+    runs->used = 0;
+}
+
+/* Adds the second that a record tells to a table. LINDENSCOOP_OK: the second joined the newest run where runs->used is as before, and
+   opened a row where it is one more. LINDENSCOOP_NO_SECOND: the record tells none. LINDENSCOOP_NO_ROW: it needs a row and all are in
+   use; take the rows out, clear the table and add the record again. Since it joins no run, the runs taken out one table after the
+   other are those of a table without an end. A refusal changes nothing. */
+static inline uint32_t lindenscoop_add_second(lindenscoop_runs *runs, const lindenscoop_record *record)
+{
+    lindenscoop_added added = lindenscoop_add_second_numbers(runs->rows, LINDENSCOOP_ROWS, runs->used, *record);
+    runs->used = added.used;
+    return added.answer;
+}
+
+/* The date of a second: the year with its century, 1980 to 2079, month, day. False for a yy above 99, and nothing is stored. */
+static inline LINDENSCOOP_MUST_CHECK bool lindenscoop_second_date(const lindenscoop_second *second, uint32_t *year, uint32_t *month, uint32_t *day)
+{
+    if (!lindenscoop_full_year(second->yy, year))
+        return false;
+    *month = second->month;
+    *day = second->day;
+    return true;
+}
+
 /* What an answer means. The texts of the refusals are those of README.md, "What a refusal means". */
 static inline const char *lindenscoop_message(uint32_t answer)
 {
@@ -378,6 +465,12 @@ static inline const char *lindenscoop_message(uint32_t answer)
         return "no valid string lies wholly at or after the start of the search";
     case LINDENSCOOP_OVERLAP:
         return "a valid string ends too close behind the last one; a listener that was started never gives it";
+    case LINDENSCOOP_NO_SECOND:
+        return "the record has no full date, or is bad, so that it tells no second";
+    case LINDENSCOOP_NO_ROW:
+        return "a row is needed and all 64 are in use";
+    case LINDENSCOOP_BAD_TABLE:
+        return "a table that no calls made: not of 64 rows, a number in use over 64, or a newest row with an impossible last second or a count over 4,000,000,000";
     case LINDENSCOOP_HEARD:
         return "a record was handed out";
     default:

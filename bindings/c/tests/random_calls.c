@@ -19,6 +19,8 @@ static unsigned long long seed = 1, calls, drawn;
 static unsigned answers[128];
 /* how many records were handed out for each form */
 static unsigned heard[16];
+/* how many seconds joined a run, and how many opened a row */
+static unsigned joined, opened;
 
 static void fail(int line, const char *test)
 {
@@ -430,6 +432,213 @@ static void call_full_year(void)
     CHECK(answer == 0 ? 1980 <= *year && *year <= 2079 && *year % 100 == yy : *year == 0);
 }
 
+/* ---- Runs of seconds, with a plain model of them ---- */
+
+enum { ROWS = LINDENSCOOP_ROWS, MOST_ROWS = 78 /* that have room */ };
+
+static uint32_t month_days(uint32_t yy, uint32_t month)
+{
+    static const uint32_t days[] = {31, 28, 31, 30, 31, 30, 31, 31, 30, 31, 30, 31};
+    /* of 1980 to 2079 every fourth year is a leap year, 2000 too */
+    return month < 1 || month > 12 ? 0 : days[month - 1] + (month == 2 && yy % 4 == 0);
+}
+
+static int is_second(lindenscoop_second s)
+{
+    return s.yy < 100 && 1 <= s.day && s.day <= month_days(s.yy, s.month) && s.hour < 24 && s.minute < 60 && s.second <= 60;
+}
+
+/* Second 0 of the next minute; 0 where the calendar has none */
+static int next_minute(lindenscoop_second *s)
+{
+    s->second = 0;
+    if (++s->minute < 60)
+        return 1;
+    s->minute = 0;
+    if (++s->hour < 24)
+        return 1;
+    s->hour = 0;
+    if (++s->day <= month_days(s->yy, s->month))
+        return 1;
+    s->day = 1;
+    if (++s->month <= 12)
+        return 1;
+    s->month = 1;
+    s->yy = (s->yy + 1) % 100;
+    return s->yy != 80;
+}
+
+static int same_second(lindenscoop_second one, lindenscoop_second other)
+{
+    return memcmp(&one, &other, sizeof one) == 0;
+}
+
+static int is_next(lindenscoop_second before, lindenscoop_second after)
+{
+    lindenscoop_second within = before, behind = before;
+    within.second++;
+    if (before.second < 60 && same_second(within, after))
+        return 1;
+    return before.second >= 59 && next_minute(&behind) && same_second(behind, after);
+}
+
+/* The second that a record tells; 0 where it tells none. That a record is bad is for the writer of the block, which takes every other, to say */
+static int told_second(const lindenscoop_record *r, lindenscoop_second *s)
+{
+    uint8_t out[LINDENSCOOP_LONGEST_STRING];
+    size_t written = 0;
+    s->yy = r->yy, s->month = r->month, s->day = r->day;
+    s->hour = r->hour, s->minute = r->minute, s->second = r->second;
+    return r->date == LINDENSCOOP_FULL_DATE && lindenscoop_write(LINDENSCOOP_BLOCK, r, out, sizeof out, &written) == LINDENSCOOP_OK;
+}
+
+/* What is to be answered, with the rows changed as they are to be */
+static lindenscoop_added model_add(lindenscoop_run *rows, size_t length, uint32_t used, const lindenscoop_record *r)
+{
+    lindenscoop_added added = {LINDENSCOOP_OK, used};
+    lindenscoop_second s;
+    lindenscoop_run *newest = used > 0 && used <= ROWS ? &rows[used - 1] : NULL;
+    if (length != ROWS || used > ROWS || (newest && (!is_second(newest->last) || newest->count > 4000000000u)))
+        added.answer = LINDENSCOOP_BAD_TABLE;
+    else if (!told_second(r, &s))
+        added.answer = LINDENSCOOP_NO_SECOND;
+    else if (newest && is_next(newest->last, s))
+        newest->last = s, newest->count++;
+    else if (used == ROWS)
+        added.answer = LINDENSCOOP_NO_ROW;
+    else
+        rows[used].first = s, rows[used].last = s, rows[used].count = 1, added.used++;
+    return added;
+}
+
+/* A second, mostly near the end of a minute, a day, a month or the calendar; at times one that there is not */
+static lindenscoop_second random_second(void)
+{
+    static const uint32_t edges[] = {0, 13, 24, 29, 30, 31, 32, 60, 61, 100, 0x7fffffff, 0xffffffff};
+    lindenscoop_second s;
+    s.yy = draw(3) ? draw(100) : 79;
+    s.month = draw(3) ? 1 + draw(12) : 12;
+    s.day = draw(2) ? month_days(s.yy, s.month) : 1 + draw(28);
+    s.hour = draw(2) ? draw(24) : 23;
+    s.minute = draw(2) ? draw(60) : 59;
+    s.second = draw(2) ? draw(61) : 58 + draw(3);
+    if (!draw(10)) {
+        uint32_t numbers[6];
+        memcpy(numbers, &s, sizeof s);
+        numbers[draw(6)] = edges[draw(sizeof edges / sizeof *edges)];
+        memcpy(&s, numbers, sizeof s);
+    }
+    return s;
+}
+
+/* A next second; behind 60 at times 61, which there is not */
+static lindenscoop_second go_on(lindenscoop_second s)
+{
+    if (s.second >= 59 && draw(3))
+        next_minute(&s);
+    else
+        s.second++;
+    return s;
+}
+
+/* A next second, the same one, one near it, or any */
+static lindenscoop_second step(lindenscoop_second s)
+{
+    switch (draw(9)) {
+    case 0:
+        return random_second();
+    case 1:
+        return s;
+    case 2:
+        s.second = draw(62);
+        return s;
+    case 3:
+        next_minute(&s);
+        next_minute(&s);
+        return s;
+    default:
+        return go_on(s);
+    }
+}
+
+/* A record of a second, alone or with every other field, which may be bad; at times any record */
+static void random_telling(lindenscoop_record *r, lindenscoop_second s)
+{
+    random_record(r);
+    if (!draw(10))
+        return;
+    if (draw(3))
+        memset(r, 0, sizeof *r);
+    r->date = sometimes(LINDENSCOOP_FULL_DATE, draw(4));
+    r->yy = s.yy, r->month = s.month, r->day = s.day;
+    r->hour = s.hour, r->minute = s.minute, r->second = s.second;
+}
+
+/* Any table: every row afterwards, and the rows around it, are those of the model */
+static void call_add_second(void)
+{
+    lindenscoop_run before[MOST_ROWS], expected[MOST_ROWS];
+    lindenscoop_record r;
+    size_t length = sometimes(ROWS, draw(MOST_ROWS + 1));
+    uint32_t used = draw(3) ? draw(ROWS + 1) : draw(3) ? ROWS : draw(2) ? ROWS + draw(3) : 0xffffffffu - draw(2) * 0x7fffffffu;
+    for (int i = 0; i < MOST_ROWS; i++) {
+        before[i].first = random_second();
+        before[i].last = random_second();
+        before[i].count = sometimes(draw(5000), draw(2) ? 4000000000u + draw(2) : 0xffffffffu);
+    }
+    random_telling(&r, used > 0 && used <= MOST_ROWS ? step(before[used - 1].last) : random_second());
+    memcpy(expected, before, sizeof expected);
+    const lindenscoop_added wanted = model_add(expected, length, used, &r);
+    lindenscoop_run *rows = lend(0, before, length * sizeof *rows);
+    const lindenscoop_added added = lindenscoop_add_second_numbers(rows, length, used, r);
+    CHECK(seen(added.answer) == wanted.answer && added.used == wanted.used);
+    CHECK(memcmp(rows, expected, length * sizeof *rows) == 0);
+    joined += added.answer == LINDENSCOOP_OK && added.used == used;
+    opened += added.answer == LINDENSCOOP_OK && added.used != used;
+}
+
+/* The rows of a table are the runs of these seconds: each row is walked over from its first one to its last */
+static void check_afresh(const lindenscoop_runs *runs, const lindenscoop_second *seconds, size_t length)
+{
+    size_t at = 0;
+    for (uint32_t row = 0; row < runs->used; row++) {
+        size_t head = at++;
+        CHECK(head < length);
+        while (at < length && is_next(seconds[at - 1], seconds[at]))
+            at++;
+        CHECK(same_second(runs->rows[row].first, seconds[head]) && same_second(runs->rows[row].last, seconds[at - 1]));
+        CHECK(runs->rows[row].count == at - head);
+    }
+    CHECK(at == length);
+}
+
+/* A table that only these calls write, from an empty one on: its rows are the runs, worked out afresh, of the records not refused */
+static void call_runs(void)
+{
+    enum { MOST = 300 };
+    lindenscoop_second kept[MOST], s = random_second(), told;
+    lindenscoop_runs runs;
+    lindenscoop_record r;
+    size_t length = 0, most = draw(MOST + 1);
+    uint32_t steady = 1 + draw(20);
+    memset(&runs, FILLING, sizeof runs);
+    lindenscoop_runs_clear(&runs);
+    for (size_t i = 0; i < most; i++) {
+        uint32_t used = runs.used;
+        random_telling(&r, s);
+        const int tells = told_second(&r, &told);
+        const uint32_t answer = seen(lindenscoop_add_second(&runs, &r));
+        CHECK(tells ? answer == LINDENSCOOP_OK || (answer == LINDENSCOOP_NO_ROW && used == ROWS) : answer == LINDENSCOOP_NO_SECOND);
+        CHECK(runs.used == used || (answer == LINDENSCOOP_OK && runs.used == used + 1));
+        if (answer == LINDENSCOOP_OK)
+            kept[length++] = told;
+        s = !is_second(s) ? random_second() : draw(steady) ? go_on(s) : step(s);
+    }
+    check_afresh(&runs, kept, length);
+    for (uint32_t row = runs.used; row < ROWS; row++)
+        CHECK(is_filled(&runs.rows[row], sizeof runs.rows[row]));
+}
+
 /* Null with length 0, where the header allows it */
 static void call_with_null(void)
 {
@@ -447,7 +656,7 @@ static void call_with_null(void)
 
 int main(int argc, char **argv)
 {
-    static void (*const all[])(void) = {call_read, call_write, call_search, call_start, call_feed, call_feed_byte, call_overlap, call_mark, call_days_since_1980, call_full_year, call_with_null};
+    static void (*const all[])(void) = {call_read, call_write, call_search, call_start, call_feed, call_feed_byte, call_overlap, call_mark, call_days_since_1980, call_full_year, call_add_second, call_runs, call_with_null};
     unsigned long long most = argc > 2 ? strtoull(argv[2], NULL, 10) : 200000;
     if (argc > 1)
         seed = strtoull(argv[1], NULL, 10);
@@ -458,8 +667,9 @@ int main(int argc, char **argv)
         all[draw(sizeof all / sizeof *all)]();
     }
     if (most >= 20000)
-        for (int i = 0; i <= LINDENSCOOP_OVERLAP; i++)
+        for (int i = 0; i <= LINDENSCOOP_NO_ROW; i++)
             CHECK(answers[i] > 0);
+    CHECK(most < 20000 || (answers[LINDENSCOOP_BAD_TABLE] > 0 && joined > 0 && opened > 0));
     for (size_t i = 0; most >= 20000 && i < sizeof serial_forms / sizeof *serial_forms; i++)
         CHECK(heard[serial_forms[i]] > 0);
     printf("random_calls: seed %llu, %llu calls;", seed, most);

@@ -1,6 +1,10 @@
 //! The border to the static library: the only unsafe code. Every length that crosses is that of the slice beside it, and every function
 //! of the library answers on all inputs, so that nothing has to be tested here first.
 
+use std::mem::size_of;
+
+use crate::runs::{Run, Second};
+
 /// How many numbers a record has; lindenscoop.h names them in order.
 pub const RECORD_NUMBERS: usize = 29;
 pub type FlatRecord = [u32; RECORD_NUMBERS];
@@ -11,6 +15,21 @@ pub type State = [u8; STATE_BYTES];
 
 /// What `feed` and `feed_all` answer for a record handed out.
 pub const HANDED_OUT: u32 = 100;
+
+/// A record by value, and the answer to it.
+#[repr(C)]
+struct RecordNumbers {
+    numbers: FlatRecord,
+}
+
+#[repr(C)]
+struct AddedNumbers {
+    answer: u32,
+    used: u32,
+}
+
+/// The library counts the rows of a table in these bytes.
+const _: () = assert!(size_of::<Second>() == 24 && size_of::<Run>() == 52);
 
 extern "C" {
     fn lindenscoop_read_numbers(
@@ -63,6 +82,12 @@ extern "C" {
     ) -> u32;
     fn lindenscoop_full_year_raw(yy: u32, year: *mut u32) -> u32;
     fn lindenscoop_days_since_1980_raw(yy: u32, month: u32, day: u32, days: *mut u32) -> u32;
+    fn lindenscoop_add_second_numbers(
+        rows: *mut Run,
+        rows_length: usize,
+        used: u32,
+        record: RecordNumbers,
+    ) -> AddedNumbers;
 }
 
 pub fn read(form: u32, input: &[u8]) -> (u32, FlatRecord) {
@@ -166,4 +191,12 @@ pub fn days_since_1980(yy: u32, month: u32, day: u32) -> (u32, u32) {
     let mut days = 0;
     let number = unsafe { lindenscoop_days_since_1980_raw(yy, month, day, &mut days) };
     (number, days)
+}
+
+/// The answer, and the number of rows in use afterwards.
+pub fn add_second(rows: &mut [Run], used: u32, numbers: FlatRecord) -> (u32, u32) {
+    let record = RecordNumbers { numbers };
+    let added =
+        unsafe { lindenscoop_add_second_numbers(rows.as_mut_ptr(), rows.len(), used, record) };
+    (added.answer, added.used)
 }

@@ -19,6 +19,7 @@ mod form;
 mod listener;
 mod record;
 mod refusal;
+mod runs;
 mod telegrams;
 
 pub use codec::{append, read, search, write, Found};
@@ -26,4 +27,5 @@ pub use form::{Form, ParseFormError};
 pub use listener::{Listener, State};
 pub use record::{Date, Fraction, Position, Record};
 pub use refusal::Refusal;
+pub use runs::{add_second, Added, Run, Runs, Second};
 pub use telegrams::{heard, mark, telegrams, Heard, Telegrams};

@@ -1,4 +1,4 @@
-//! Why an input, a record, a buffer or a state is refused. The meanings are those of README.md, "What a refusal means".
+//! Why an input, a record, a buffer, a state or a table is refused. The meanings are those of README.md, "What a refusal means".
 
 use std::error::Error;
 use std::fmt;
@@ -51,6 +51,9 @@ refusals! {
     BadState = 11, "a listener's state that no listener has: another version or form, too many bytes, too large a distance";
     NotFound = 12, "no valid string lies wholly at or after the start of the search";
     Overlap = 13, "a valid string ends too close behind the last one; a listener that was started never gives it";
+    NoSecond = 14, "the record has no full date, or is bad, so that it tells no second";
+    NoRow = 15, "a row is needed and all 64 are in use";
+    BadTable = 21, "a table that no calls made: not of 64 rows, a number in use over 64, or a newest row with an impossible last second or a count over 4,000,000,000";
 }
 
 impl Refusal {
@@ -85,8 +88,8 @@ impl fmt::Display for Refusal {
 
 impl Error for Refusal {}
 
-/// For functions that return `io::Result`: `InvalidInput` where a form, a record or a buffer of the caller's is refused, `InvalidData` where
-/// bytes that were read are. The refusal is kept inside.
+/// For functions that return `io::Result`: `InvalidInput` where a form, a record or a buffer of the caller's is refused, a table without a
+/// row left included, `InvalidData` where bytes that were read, a state or a table are. The refusal is kept inside.
 ///
 /// ```
 /// use lindenscoop::{read, Form, Record, Refusal};
@@ -105,7 +108,9 @@ impl From<Refusal> for io::Error {
             | Refusal::BadRecord
             | Refusal::MissingField
             | Refusal::NotExpressible
-            | Refusal::ShortBuffer => io::ErrorKind::InvalidInput,
+            | Refusal::ShortBuffer
+            | Refusal::NoSecond
+            | Refusal::NoRow => io::ErrorKind::InvalidInput,
             Refusal::WrongLength
             | Refusal::WrongByte
             | Refusal::OutOfRange
@@ -113,7 +118,8 @@ impl From<Refusal> for io::Error {
             | Refusal::WrongChecksum
             | Refusal::BadState
             | Refusal::NotFound
-            | Refusal::Overlap => io::ErrorKind::InvalidData,
+            | Refusal::Overlap
+            | Refusal::BadTable => io::ErrorKind::InvalidData,
         };
         io::Error::new(kind, refusal)
     }

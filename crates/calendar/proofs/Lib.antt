@@ -3,6 +3,7 @@ pub mod Months
 pub mod Count
 pub mod Rule
 pub mod Ranges
+pub mod Last
 pub mod Entries
 pub mod DayOfYear
 pub mod Years

@@ -9,3 +9,4 @@ pub mod Repeated
 pub mod Index
 pub mod Version
 pub mod Calendar
+pub mod AddSecond

@@ -31,3 +31,10 @@ numberOf refusal.BadState = 11
 numberOf refusal.NotFound = 12
 -- "listener: a valid string ends fewer than n bytes after the last one handed out"
 numberOf refusal.Overlap = 13
+-- W-206: "no full date or a bad record"
+numberOf refusal.NoSecond = 14
+-- "a row is needed and 64 are in use"
+numberOf refusal.NoRow = 15
+-- "the table is not of 64 rows, the number in use is over 64 or the newest row's last second is impossible or its count over
+-- 4,000,000,000"
+numberOf refusal.BadTable = 21

@@ -1,4 +1,4 @@
-// Why an input, a record, a buffer or a state is refused. No two refusals share a number.
+// Why an input, a record, a buffer, a state or a table is refused. No two refusals share a number.
 ghost use mathlib.Core.Path.{_≡_};
 ghost use Rattle.record.specs.Refusal.{numberOf};
 
@@ -16,6 +16,9 @@ pub enum Refusal {
     BadState,
     NotFound,
     Overlap,
+    NoSecond,
+    NoRow,
+    BadTable,
 }
 
 impl Refusal {
@@ -36,6 +39,9 @@ impl Refusal {
             Refusal::BadState => 11,
             Refusal::NotFound => 12,
             Refusal::Overlap => 13,
+            Refusal::NoSecond => 14,
+            Refusal::NoRow => 15,
+            Refusal::BadTable => 21,
         }
     }
 }

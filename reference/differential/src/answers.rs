@@ -3,7 +3,7 @@
 use lindenscoop::{read, search, write, Form, Listener, Record, Refusal, State};
 use reference::protocol::{hex, parse_fields, unhex, FILLING};
 
-use crate::convert;
+use crate::{convert, runs};
 
 const RING: usize = 66;
 
@@ -103,6 +103,14 @@ fn answer_feed(state: State, byte: u8) -> String {
 /// The answer to a request; None where the library's interface cannot be asked it.
 pub fn answer(line: &str) -> Option<String> {
     let words: Vec<&str> = line.split_whitespace().collect();
+    match words[..] {
+        ["add", length, used, table, fields] => {
+            let record = convert::record(&parse_fields(fields)?);
+            return runs::answer_add(length, used, table, &record);
+        }
+        ["addall", records] => return runs::answer_add_all(records),
+        _ => {}
+    }
     let form = Form(words[1].parse().ok()?);
     Some(match words[..] {
         ["read", _, input] => answer_read(form, &unhex(input)?),

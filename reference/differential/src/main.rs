@@ -1,6 +1,6 @@
-//! Compares the library with the independent reference program on seeded requests, over the whole calendar, every offset of the frames and every degree, minute, byte and kind of the RMC string, and with the vectors.
+//! Compares the library with the independent reference program on seeded requests, over the whole calendar, every offset of the frames, every degree, minute, byte and kind of the RMC string and the end of every day, and with the vectors.
 //!
-//!     differential SEED COUNT VECTORS  compares COUNT requests, every date, every offset, every minute and every line of VECTORS
+//!     differential SEED COUNT VECTORS  compares COUNT requests, every date, every offset, every minute, every day's end and every line of VECTORS
 //!     differential VECTORS             compares the lines alone
 //!
 //! VECTORS is a file of lines, or a folder whose `.txt` files have them; vectors/README.md describes a line. A mismatch is printed and fails. Before that it plants a fault on either side, and fails if that is not noticed.
@@ -12,10 +12,11 @@ use std::path::Path;
 use std::process::ExitCode;
 
 use reference::generate::Requests;
-use reference::{every_date, every_minute, every_offset};
+use reference::{every_date, every_minute, every_offset, every_second};
 
 mod answers;
 mod convert;
+mod runs;
 mod vectors;
 
 /// Whether two answers are one.
@@ -45,6 +46,15 @@ fn print_mismatch(request: &str, library: &str, reference: &str) {
     println!("mismatch: {request}\n  library   {library}\n  reference {reference}");
 }
 
+/// What a request asks, with its form where it has one.
+fn kind(request: &str) -> String {
+    let words: Vec<&str> = request.split(' ').take(2).collect();
+    if words[0].starts_with("add") {
+        return words[0].to_string();
+    }
+    words.join(" form ")
+}
+
 /// How many requests were compared, and how many answers differ.
 fn compare(seed: u64, count: usize) -> (usize, usize) {
     let mut compared: BTreeMap<String, usize> = BTreeMap::new();
@@ -54,8 +64,7 @@ fn compare(seed: u64, count: usize) -> (usize, usize) {
             continue;
         };
         asked += 1;
-        let kind: Vec<&str> = request.split(' ').take(2).collect();
-        *compared.entry(kind.join(" form ")).or_default() += 1;
+        *compared.entry(kind(&request)).or_default() += 1;
         let reference = reference::protocol::answer(&request);
         if !agree(&library, &reference) {
             mismatches += 1;
@@ -109,7 +118,8 @@ fn main() -> Result<ExitCode, Box<dyn Error>> {
             let calendar = list_agrees("calendar", every_date::requests());
             let offsets = list_agrees("offsets", every_offset::requests());
             let minutes = list_agrees("minutes", every_minute::requests());
-            let lists = calendar && offsets && minutes;
+            let seconds = list_agrees("seconds", every_second::requests());
+            let lists = calendar && offsets && minutes && seconds;
             vectors_agree(path)? && lists && asked > 0 && mismatches == 0
         }
         _ => return Err("usage: differential [SEED COUNT] VECTORS".into()),

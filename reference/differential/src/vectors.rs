@@ -7,7 +7,7 @@ use std::path::{Path, PathBuf};
 use lindenscoop::{read, write, Form};
 use reference::protocol::{parse_fields, FILLING};
 
-use crate::convert;
+use crate::{answers, convert};
 
 /// The bytes of a text in which `\xNN` stands for one byte and everything else for itself.
 fn unescaped(text: &str) -> Option<Vec<u8>> {
@@ -63,6 +63,11 @@ fn fault(line: &str) -> Option<String> {
     let [form, input, number, bytes, _origin] = columns[..] else {
         return Some(format!("{} columns, and a line has 5", columns.len()));
     };
+    if form == "addall" || form.starts_with("add ") {
+        let answer = answers::answer(&format!("{form} {input}")).unwrap_or("nothing".into());
+        let expected = format!("{number} {bytes}");
+        return (answer != expected).then(|| format!("the library answers {answer}"));
+    }
     let Some(answer) = answered(form, input) else {
         return Some("form or input cannot be understood".into());
     };

@@ -10,6 +10,11 @@ use crate::record::{Date, Fraction, Position, Record};
 use crate::serial::{number, spa_sum, spell_sum};
 
 mod rmc;
+mod runs;
+mod tables;
+
+#[cfg(test)]
+pub(crate) use runs::record_list;
 
 /// The generator "splitmix64".
 #[derive(Clone, Debug)]
@@ -1044,7 +1049,7 @@ const NOT_THIS_FORM: [u32; 14] = [
     u32::MAX,
 ];
 
-/// The endless list of requests over all forms and kinds.
+/// The endless list of requests over all forms and kinds; one in twelve is for the runs of W-206.
 #[derive(Clone, Debug)]
 pub struct Requests {
     random: Random,
@@ -1130,15 +1135,16 @@ impl Iterator for Requests {
     fn next(&mut self) -> Option<String> {
         let forms = FORMS.count();
         let form = (self.turn % forms) as u32 + 1;
-        let kind = self.turn / forms % 10;
+        let kind = self.turn / forms % 12;
         self.turn += 1;
         let streamed = self.form_of_stream(form);
         Some(match kind {
-            0..=4 => self.read_request(form),
-            5 | 6 => self.write_request(form),
-            7 => self.search_request(streamed),
-            8 => self.listen_request(streamed),
-            _ => self.feed_request(streamed),
+            0..=5 => self.read_request(form),
+            6 | 7 => self.write_request(form),
+            8 => self.search_request(streamed),
+            9 => self.listen_request(streamed),
+            10 => self.feed_request(streamed),
+            _ => runs::request(&mut self.random),
         })
     }
 }

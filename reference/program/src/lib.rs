@@ -1,7 +1,7 @@
 //! A second, independent implementation of document 01 ("Time strings, the frame and the block")
 //! and of document 02, W-201 (the SAT string, form 10), W-203 (the sign in the frame, forms 8 and
-//! 11), W-204 (the RMC string, form 12, and the record's kinds that it brings) and W-205 (the years
-//! 1980 to 2079).
+//! 11), W-204 (the RMC string, form 12, and the record's kinds that it brings), W-205 (the years 1980
+//! to 2079) and W-206 (the runs of heard seconds).
 //!
 //! It was written from these papers and the manuals alone, to be compared with the verified
 //! library. It is meant to be read beside the papers, not to be fast.
@@ -9,11 +9,13 @@
 // A remainder of 0 is the plainer word for the calendar.
 #![allow(clippy::manual_is_multiple_of)]
 
+pub mod afresh;
 pub mod block;
 pub mod calendar;
 pub mod every_date;
 pub mod every_minute;
 pub mod every_offset;
+pub mod every_second;
 pub mod forms;
 pub mod frame;
 pub mod generate;
@@ -23,6 +25,7 @@ pub mod program;
 pub mod protocol;
 pub mod record;
 pub mod rmc;
+pub mod runs;
 pub mod search;
 pub mod serial;
 
@@ -30,6 +33,8 @@ pub mod serial;
 mod bench;
 #[cfg(test)]
 mod kinds;
+#[cfg(test)]
+mod pairs;
 #[cfg(test)]
 mod rmc_strings;
 #[cfg(test)]

@@ -5,6 +5,10 @@ use crate::listener::{Heard, Listener};
 use crate::record::{Date, Fraction, Position, Record};
 use crate::{read, search, write};
 
+mod runs;
+
+pub use runs::{parse_records, parse_table, spell_records, spell_table};
+
 /// What a buffer is filled with before a write.
 pub const FILLING: u8 = 0x55;
 
@@ -91,7 +95,7 @@ fn parse_position(text: &str) -> Option<Position> {
     }
 }
 
-/// A record from the comma list of a `writeraw` request.
+/// A record from the comma list of a request.
 pub fn parse_fields(text: &str) -> Option<Record> {
     let parts: Vec<&str> = text.split(',').collect();
     if parts.len() != 14 {
@@ -262,6 +266,12 @@ fn understood(line: &str) -> Option<String> {
                 _ => None,
             }
         }
+        ["add", length, used, table, fields] => Some(runs::answer_add(
+            parse_table(parse_number(length)?, table)?,
+            parse_number(used)?,
+            &parse_fields(fields)?,
+        )),
+        ["addall", records] => Some(runs::answer_add_all(&parse_records(records)?)),
         _ => None,
     }
 }
@@ -271,7 +281,7 @@ pub fn answer(line: &str) -> String {
     understood(line).unwrap_or("?".to_string())
 }
 
-/// How often each number is answered to reads and writes.
+/// How often each number is answered to reads, writes and single calls on a table.
 #[cfg(test)]
 pub(crate) fn numbers_answered(
     requests: impl Iterator<Item = String>,

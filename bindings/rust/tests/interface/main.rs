@@ -1,4 +1,4 @@
-//! What programs rest on beside the library's own answers: forms by name, places in a stream, refusals as errors, stored states, vectors, years, days, the kinds of a field.
+//! What programs rest on beside the library's own answers: forms by name, places in a stream, refusals as errors, stored states, vectors, years, days, the kinds of a field, the runs of seconds.
 
 mod dates;
 mod forms;
@@ -7,6 +7,8 @@ mod kinds;
 mod places;
 mod refusals;
 mod rmc;
+mod runs;
 mod sat;
 mod states;
+mod tables;
 mod writing;

@@ -1,0 +1,23 @@
+-- What the second of a record does to the runs of heard seconds from C: the answer, and every row afterwards.
+use mathlib.Core.List.{List}
+use mathlib.Core.Path.{_≡_}
+use Prim.Native.Nat.{ℕ}
+use Rattle.record.specs.Answers.{readRecord}
+use Rattle.record.specs.declared.Record.{Record}
+use Rattle.flat_record.specs.Decode.{recordOf}
+use Rattle.runs.specs.Rows.{addedTo, outcomeNumber}
+use Rattle.runs.specs.declared.Added.{Added}
+use Rattle.runs.specs.declared.Run.{Run}
+use Rattle.lindenscoop.specs.declared.add_second.AddedNumbers.{AddedNumbers}
+
+-- the record of numbers; numbers that are none give the empty record, which tells no second: "14 no full date or a bad record"
+abbrev pub recordGiven : List ℕ → Record
+recordGiven r = readRecord (recordOf r)
+
+-- an answer in numbers: "Each answer carries the number in use."
+abbrev pub numbersOf : Added → AddedNumbers
+numbersOf a = record { answer = outcomeNumber (a .outcome); used = a .used }
+
+pub record AddedAs (rows : List Run) (used : ℕ) (r : List ℕ) (n : AddedNumbers) (rows′ : List Run) : Type 0 where
+  pub answer : n ≡ numbersOf (addedTo rows used (recordGiven r) .answer)
+  pub left : rows′ ≡ addedTo rows used (recordGiven r) .rows
