@@ -64,7 +64,11 @@ impl<'a> Grid<'a> {
     /// Draws it from y on, and returns where it ends.
     pub fn draw(&self, svg: &mut Svg, y: u64) -> u64 {
         let [line, column] = self.unit.words;
-        let words = format!("One line is {line}, one column is {column}.");
+        let mut words = format!("One line is {line}, one column is {column}.");
+        if self.unit.share(self.pitch, APART) > 1 {
+            // a sum of two minutes may be over 60
+            words += " A sum at the right is of the lines from its label to the next one.";
+        }
         svg.words(BAND_X, y + TEXT, FONT.colour(FAINT), &words);
         let top = y + 4 * TEXT;
         self.headings(svg, top - 12);
