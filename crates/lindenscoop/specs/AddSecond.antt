@@ -15,9 +15,9 @@ abbrev pub recordGiven : List ℕ → Record
 recordGiven r = readRecord (recordOf r)
 
 -- an answer in numbers: "Each answer carries the number in use."
-abbrev pub numbersOf : Added → AddedNumbers
-numbersOf a = record { answer = outcomeNumber (a .outcome); used = a .used }
+abbrev pub addedNumbers : Added → AddedNumbers
+addedNumbers a = record { answer = outcomeNumber (a .outcome); used = a .used }
 
 pub record AddedAs (rows : List Run) (used : ℕ) (r : List ℕ) (n : AddedNumbers) (rows′ : List Run) : Type 0 where
-  pub answer : n ≡ numbersOf (addedTo rows used (recordGiven r) .answer)
+  pub answer : n ≡ addedNumbers (addedTo rows used (recordGiven r) .answer)
   pub left : rows′ ≡ addedTo rows used (recordGiven r) .rows

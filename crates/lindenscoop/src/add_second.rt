@@ -1,6 +1,6 @@
 // The runs of heard seconds for C programs.
 ghost use mathlib.Core.Path.{_≡_};
-ghost use Rattle.lindenscoop.specs.AddSecond.{AddedAs, numbersOf, recordGiven};
+ghost use Rattle.lindenscoop.specs.AddSecond.{AddedAs, addedNumbers, recordGiven};
 use record::Record;
 use runs::Added;
 use runs::Run;
@@ -27,8 +27,8 @@ fn record_given(given: RecordNumbers) -> Record
     reading.record()
 }
 
-fn numbers_of(added: Added) -> AddedNumbers
-    ensures { λ n. ⌜ n ≡ numbersOf added ⌝ }
+fn added_numbers(added: Added) -> AddedNumbers
+    ensures { λ n. ⌜ n ≡ addedNumbers added ⌝ }
 {
     let outcome = added.outcome;
     AddedNumbers {
@@ -46,5 +46,5 @@ pub extern "C" fn lindenscoop_add_second_numbers(
 ) -> AddedNumbers
     ensures { λ n. ⌜ AddedAs (now (rows .entry)) used (given .numbers) n (now (rows .exit)) ⌝ }
 {
-    numbers_of(runs::add(rows, used, record_given(given)))
+    added_numbers(runs::add(rows, used, record_given(given)))
 }

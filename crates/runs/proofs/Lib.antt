@@ -9,3 +9,4 @@ pub mod Table
 pub mod LastMinute
 pub mod Cases
 pub mod Runs
+pub mod Values

@@ -15,6 +15,7 @@ use Rattle.runs.specs.declared.change.Change.{Change}
 use Rattle.runs.specs.Changes.{changeBy, newestAt}
 use Rattle.runs.specs.Rows.{After, addedTo, answered, noRun}
 use Rattle.runs.proofs.Changes.{bad-is, change-fits, stored, stored-is}
+use Rattle.runs.proofs.Values.{vadded, vrecord, vrun}
 use Rattle.runs.proofs.Run as R
 use Rattle.runs.proofs.Run.Laws as R′
 use Rattle.runs.proofs.Added as D
@@ -39,18 +40,9 @@ use Rattle.runs.proofs.add.Code as code
 abbrev stayed : Stays (f.ended .signature .params) (f.ended .kept)
 stayed = (stay-slice (0 ∷ []) tt (plain (λ _. R.the-row)), (stay-none (λ _. u32) yes, (stay-none (λ _. E.the-row) yes, tt)))
 
--- the machine values of a row, a record, a change and an answer
-abbrev vrun : Run → Val
-vrun n = only (LL.vals R.the-type R′.the-laws n)
-
-abbrev vrecord : Record → Val
-vrecord r = only (LL.vals E.the-type E′.the-laws r)
-
+-- the machine value of a change
 abbrev vchange : Change → Val
 vchange c = only (LL.vals G.the-type G′.the-laws c)
-
-abbrev vadded : Added → Val
-vadded a = only (LL.vals D.the-type D′.the-laws a)
 
 -- the parts of a change
 row-is : (c : Change) → Is G.the-row c (vchange c ∷ []) → Is R.the-row (c .row) (vrun (c .row) ∷ [])

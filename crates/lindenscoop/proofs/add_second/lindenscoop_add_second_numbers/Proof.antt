@@ -10,6 +10,7 @@ use Rattle.record.proofs.Record.Laws as E′
 use Rattle.runs.specs.declared.Added.{Added}
 use Rattle.runs.specs.declared.Run.{Run}
 use Rattle.runs.specs.Rows.{addedTo}
+use Rattle.runs.proofs.Values.{vadded, vrecord}
 use Rattle.runs.proofs.Run as R
 use Rattle.runs.proofs.Added as D
 use Rattle.runs.proofs.Added.Laws as D′
@@ -18,7 +19,7 @@ use Rattle.runs.proofs.add.Symbol as add-def
 use Rattle.runs.proofs.add.Met as add-thm
 use Rattle.lindenscoop.specs.declared.add_second.AddedNumbers.{AddedNumbers}
 use Rattle.lindenscoop.specs.declared.add_second.RecordNumbers.{RecordNumbers}
-use Rattle.lindenscoop.specs.AddSecond.{AddedAs, numbersOf, recordGiven}
+use Rattle.lindenscoop.specs.AddSecond.{AddedAs, addedNumbers, recordGiven}
 use Rattle.lindenscoop.proofs.add_second.RecordNumbers as N
 use Rattle.lindenscoop.proofs.add_second.RecordNumbers.Laws as N′
 use Rattle.lindenscoop.proofs.add_second.AddedNumbers as B
@@ -26,9 +27,9 @@ use Rattle.lindenscoop.proofs.add_second.AddedNumbers.Laws as B′
 use Rattle.lindenscoop.proofs.add_second.record_given as rec
 use Rattle.lindenscoop.proofs.add_second.record_given.Symbol as rec-def
 use Rattle.lindenscoop.proofs.add_second.record_given.Met as rec-thm
-use Rattle.lindenscoop.proofs.add_second.numbers_of as num
-use Rattle.lindenscoop.proofs.add_second.numbers_of.Symbol as num-def
-use Rattle.lindenscoop.proofs.add_second.numbers_of.Met as num-thm
+use Rattle.lindenscoop.proofs.add_second.added_numbers as num
+use Rattle.lindenscoop.proofs.add_second.added_numbers.Symbol as num-def
+use Rattle.lindenscoop.proofs.add_second.added_numbers.Met as num-thm
 use Rattle.lindenscoop.proofs.add_second.lindenscoop_add_second_numbers.Key.{name}
 use Rattle.lindenscoop.proofs.add_second.lindenscoop_add_second_numbers as f
 use Rattle.lindenscoop.proofs.add_second.lindenscoop_add_second_numbers.Statement.{statement}
@@ -38,15 +39,9 @@ use Rattle.lindenscoop.proofs.add_second.lindenscoop_add_second_numbers
 abbrev stayed : Stays (f.ended .signature .params) (f.ended .kept)
 stayed = (gave-slice (0 ∷ []) tt (plain (λ _. R.the-row)), (stay-none (λ _. u32) yes, (stay-none (λ _. N.the-row) yes, tt)))
 
--- the machine values of a record, a record as numbers, an answer and an answer as numbers
-abbrev vrecord : Record → Val
-vrecord r = only (LL.vals E.the-type E′.the-laws r)
-
+-- the machine values of a record as numbers and of an answer as numbers
 abbrev vgiven : RecordNumbers → Val
 vgiven g = only (LL.vals N.the-type N′.the-laws g)
-
-abbrev vadded : Added → Val
-vadded a = only (LL.vals D.the-type D′.the-laws a)
 
 abbrev vnumbers : AddedNumbers → Val
 vnumbers n = only (LL.vals B.the-type B′.the-laws n)
@@ -98,9 +93,9 @@ module _ {M : Type 1} (𝓤 : URA M) (H : Heap 𝓤) (A : Atoms 𝓤) (W : Given
   abbrev Said : Record → Added → List Run → Type 0
   Said r d zs = (d ≡ addedTo ys u r .answer) × (zs ≡ addedTo ys u r .rows)
 
-  told : (r : Record) (d : Added) (n : AddedNumbers) (zs : List Run) → r ≡ recordGiven (g .numbers) → Said r d zs → n ≡ numbersOf d → AddedAs ys u (g .numbers) n zs
+  told : (r : Record) (d : Added) (n : AddedNumbers) (zs : List Run) → r ≡ recordGiven (g .numbers) → Said r d zs → n ≡ addedNumbers d → AddedAs ys u (g .numbers) n zs
   told r d n zs e said f = record {
-    answer = f ∙ ap numbersOf (said .0 ∙ ap (λ (k : Record). addedTo ys u k .answer) e);
+    answer = f ∙ ap addedNumbers (said .0 ∙ ap (λ (k : Record). addedTo ys u k .answer) e);
     left = said .1 ∙ ap (λ (k : Record). addedTo ys u k .rows) e;
   }
 
@@ -159,9 +154,9 @@ module _ {M : Type 1} (𝓤 : URA M) (H : Heap 𝓤) (A : Atoms 𝓤) (W : Given
         -- [what the answer owns; the token; what says the last list; ..; the locals from 4 on]
         land ! (here !) (init ! 10 refl (LL.lawful D.the-type D′.the-laws 𝓤 H A W .typed d _ is₂ .0)) $
         rewrite ! 10 (λ (v : Val). ‵ (fat fullShare D′.mir added 0 v)) (ap only (LL.tells D.the-type D′.the-laws d _ is₂)) refl $
-        -- numbers_of(..)
+        -- added_numbers(..)
         asks ! fm num.ended (num.clauses 𝓤 H A mem run) known-num (to-num d) (goes-num d (at-own d w is₂)) vnumbers (LL.tells B.the-type B′.the-laws)
-        (λ n. n ≡ numbersOf d) (λ _ _. id⊢ 𝓤 _) (λ _. id⊢ 𝓤 _) (and-then ! (held ! 11 refl) (no-more !)) (λ n e₃ is₃.
+        (λ n. n ≡ addedNumbers d) (λ _ _. id⊢ 𝓤 _) (λ _. id⊢ 𝓤 _) (and-then ! (held ! 11 refl) (no-more !)) (λ n e₃ is₃.
         land ! (here !) (init ! 18 refl (LL.lawful B.the-type B′.the-laws 𝓤 H A W .typed n _ is₃ .0)) $
         returns ! (look ! 18 refl) $
         leave ! 18 refl refl $ leave ! 16 refl refl $ leave ! 14 refl refl $ leave ! 12 refl refl $ leave ! 10 refl refl $ leave ! 8 refl refl $ leave ! 6 refl refl $ leave ! 4 refl refl $ free0 ! $
@@ -190,4 +185,4 @@ lindenscoop-add-second-numbers-spec 𝓤 H 𝓜 𝓖 𝓡 =
     (meets 𝓤 H (𝓖 .A) (givenOf 𝓤 H 𝓜 𝓖) (𝓜 .mem) (𝓡 .run) (tablesOf 𝓤 H 𝓜 (tables 𝓤 H 𝓜 𝓡 code.env))
     (cited 𝓤 H (Rec 𝓤 H (𝓖 .A) (𝓜 .mem) (𝓡 .run)) 𝓜 𝓡 code.env rec-def.name rec-def.routine code.calls-lindenscoop·add-second·record-given (rec-thm.met 𝓤 H 𝓜 𝓖 𝓡))
     (cited 𝓤 H (Add 𝓤 H (𝓖 .A) (𝓜 .mem) (𝓡 .run)) 𝓜 𝓡 code.env add-def.name add-def.routine code.calls-runs·add (add-thm.met 𝓤 H 𝓜 𝓖 𝓡))
-    (cited 𝓤 H (Num 𝓤 H (𝓖 .A) (𝓜 .mem) (𝓡 .run)) 𝓜 𝓡 code.env num-def.name num-def.routine code.calls-lindenscoop·add-second·numbers-of (num-thm.met 𝓤 H 𝓜 𝓖 𝓡)))
+    (cited 𝓤 H (Num 𝓤 H (𝓖 .A) (𝓜 .mem) (𝓡 .run)) 𝓜 𝓡 code.env num-def.name num-def.routine code.calls-lindenscoop·add-second·added-numbers (num-thm.met 𝓤 H 𝓜 𝓖 𝓡)))
