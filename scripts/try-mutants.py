@@ -45,9 +45,9 @@ from mutants.sources import Crate
 
 ROOT = os.path.dirname(os.path.dirname(os.path.abspath(__file__)))
 
-# What users are promised: reading and writing by number and in each form (serial only joins forms), search, the listener, and the runs;
-# besides, all that is exported to C.
-PROMISED = re.compile(r"(?!serial::)(\w+::)+(read|write)|search::search|listener::(\w+::)*(new|feed|mark)|runs::add")
+# What users are promised: reading and writing by number and in each form (serial only joins forms), search, the listener, and the racks'
+# runs; besides, all that is exported to C.
+PROMISED = re.compile(r"(?!serial::)(\w+::)+(read|write)|search::search|listener::(\w+::)*(new|feed|mark)|racks::add")
 LEAST, LEAST_OF_A_PROMISE = 2, 3
 
 

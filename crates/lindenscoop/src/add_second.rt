@@ -1,9 +1,9 @@
 // The runs of heard seconds for C programs.
 ghost use mathlib.Core.Path.{_≡_};
 ghost use Rattle.lindenscoop.specs.AddSecond.{AddedAs, addedNumbers, recordGiven};
+use racks::Added;
+use racks::Row;
 use record::Record;
-use runs::Added;
-use runs::Run;
 
 // A record as its numbers.
 #[repr(C)]
@@ -37,14 +37,15 @@ fn added_numbers(added: Added) -> AddedNumbers
     }
 }
 
-// Puts the second of a record into the runs. The table is lent on; record and answer cross by value, so that nothing else is lent.
+// Puts the second of a rack's record into the runs. The table is lent on; record and answer cross by value, so that nothing else is lent.
 #[no_mangle]
-pub extern "C" fn lindenscoop_add_second_numbers(
-    rows: &mut [Run],
+pub extern "C" fn lindenscoop_add_rack_second_numbers(
+    rows: &mut [Row],
     used: u32,
+    rack: u32,
     given: RecordNumbers,
 ) -> AddedNumbers
-    ensures { λ n. ⌜ AddedAs (now (rows .entry)) used (given .numbers) n (now (rows .exit)) ⌝ }
+    ensures { λ n. ⌜ AddedAs (now (rows .entry)) used rack (given .numbers) n (now (rows .exit)) ⌝ }
 {
-    added_numbers(runs::add(rows, used, record_given(given)))
+    added_numbers(racks::add(rows, used, rack, record_given(given)))
 }

@@ -2,12 +2,12 @@
 use Rattle.cond.proofs.Kit.{[], _∙_, _∷_, _≡_, ap, arith, eqb, List, refl, sym, ℕ}
 use Rattle.cond.specs.Pick.{pick}
 use Rattle.record.specs.declared.refusal.Refusal.{Refusal}
-use Rattle.record.specs.declared.refusal.Refusal.the-variants.{UnknownForm, WrongLength, WrongByte, OutOfRange, Disagreement, WrongChecksum, BadRecord, MissingField, NotExpressible, ShortBuffer, BadState, NotFound, Overlap, NoSecond, NoRow, BadTable}
+use Rattle.record.specs.declared.refusal.Refusal.the-variants.{UnknownForm, WrongLength, WrongByte, OutOfRange, Disagreement, WrongChecksum, BadRecord, MissingField, NotExpressible, ShortBuffer, BadState, NotFound, Overlap, NoSecond, NoRow, NoRack, BadTable}
 use Rattle.record.specs.Refusal.{numberOf}
 
 abbrev refusals : List Refusal
 refusals =
-    UnknownForm ∷ WrongLength ∷ WrongByte ∷ OutOfRange ∷ Disagreement ∷ WrongChecksum ∷ BadRecord ∷ MissingField ∷ NotExpressible ∷ ShortBuffer ∷ BadState ∷ NotFound ∷ Overlap ∷ NoSecond ∷ NoRow ∷ BadTable ∷ []
+    UnknownForm ∷ WrongLength ∷ WrongByte ∷ OutOfRange ∷ Disagreement ∷ WrongChecksum ∷ BadRecord ∷ MissingField ∷ NotExpressible ∷ ShortBuffer ∷ BadState ∷ NotFound ∷ Overlap ∷ NoSecond ∷ NoRow ∷ NoRack ∷ BadTable ∷ []
 
 -- the first of them with this number
 abbrev numbered : List Refusal → ℕ → Refusal
@@ -33,6 +33,7 @@ back NotFound = refl
 back Overlap = refl
 back NoSecond = refl
 back NoRow = refl
+back NoRack = refl
 back BadTable = refl
 
 pub numbers-apart : (x y : Refusal) → numberOf x ≡ numberOf y → x ≡ y

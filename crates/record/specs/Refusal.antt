@@ -33,8 +33,10 @@ numberOf refusal.NotFound = 12
 numberOf refusal.Overlap = 13
 -- W-206: "no full date or a bad record"
 numberOf refusal.NoSecond = 14
--- "a row is needed and 64 are in use"
+-- W-207: "a row is needed and this rack has 32"
 numberOf refusal.NoRow = 15
--- "the table is not of 64 rows, the number in use is over 64 or the newest row's last second is impossible or its count over
--- 4,000,000,000"
+-- W-207: "rack is not 0 or 1"
+numberOf refusal.NoRack = 16
+-- W-206: "the table is not of 64 rows, the number in use is over 64 or the newest row's last second is impossible or its count over
+-- 4,000,000,000"; W-207: "also for a row in use of another rack number or over 32 of one rack, and it reads both racks' newest rows"
 numberOf refusal.BadTable = 21

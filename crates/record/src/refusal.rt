@@ -18,6 +18,7 @@ pub enum Refusal {
     Overlap,
     NoSecond,
     NoRow,
+    NoRack,
     BadTable,
 }
 
@@ -41,6 +42,7 @@ impl Refusal {
             Refusal::Overlap => 13,
             Refusal::NoSecond => 14,
             Refusal::NoRow => 15,
+            Refusal::NoRack => 16,
             Refusal::BadTable => 21,
         }
     }

@@ -21,6 +21,17 @@ extended (n ∷ m ∷ ns) s = n ∷ extended (m ∷ ns) s
 abbrev pub grown : List Run → Second → List Run
 grown ns t = pick (follows ns t) (extended ns t) (ns ++ (single t ∷ []))
 
+-- the newest run of a list that ends in it
+pub follows-snoc : (p : List Run) (x : Run) (s : Second) → follows (p ++ (x ∷ [])) s ≡ isNext (x .last) s
+follows-snoc [] x s = refl
+follows-snoc (n ∷ []) x s = refl
+follows-snoc (n ∷ m ∷ p) x s = follows-snoc (m ∷ p) x s
+
+pub extended-snoc : (p : List Run) (x : Run) (s : Second) → extended (p ++ (x ∷ [])) s ≡ p ++ (longer x s ∷ [])
+extended-snoc [] x s = refl
+extended-snoc (n ∷ []) x s = refl
+extended-snoc (n ∷ m ∷ p) x s = ap (λ (ns : List Run). n ∷ ns) (extended-snoc (m ∷ p) x s)
+
 -- a second in front of the first run
 abbrev earlier : Second → Run → Run
 earlier s n = record { first = s; last = n .last; count = n .count + 1 }

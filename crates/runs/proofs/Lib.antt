@@ -1,12 +1,8 @@
 pub mod Seconds
 pub mod Tells
-pub mod Changes
-pub mod Answers
 pub mod Grown
 pub mod Maximal
 pub mod Possible
-pub mod Table
 pub mod LastMinute
 pub mod Cases
 pub mod Runs
-pub mod Values

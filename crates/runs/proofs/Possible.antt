@@ -1,5 +1,5 @@
 -- Runs that grow from one second stay possible rows: the calendar has too few seconds for a count over 4,000,000,000.
-use Rattle.cond.proofs.Kit.{_&&_, _*_, _+_, _<_, _≡_, _≤_, _⊎_, arith, Bool, eqb, eqb-true, false, inl, inr, le-leb, leb, refl, true, ℕ}
+use Rattle.cond.proofs.Kit.{[], _&&_, _*_, _+_, _++_, _<_, _∷_, _≡_, _≤_, _⊎_, arith, Bool, eqb, eqb-true, false, inl, inr, le-leb, leb, List, refl, true, ℕ}
 use Rattle.cond.proofs.Tests.{both, both-hold, either}
 use Rattle.record.specs.Record.{dateInRange, dateTimeInRange, inRange, isGood, timeInRange, zoneAgrees}
 use Rattle.record.specs.declared.Date.{Date}
@@ -12,6 +12,7 @@ use Rattle.runs.specs.declared.second.Second.{Second}
 use Rattle.runs.specs.Heard.{secondIn, secondOn}
 use Rattle.runs.specs.Rows.{isRow, longer, single}
 use Rattle.runs.specs.Seconds.{inMinute, isNext, isSecond, minuteOf, overMinute, sameMinute}
+use Rattle.runs.proofs.Grown.{extended, follows}
 use Rattle.runs.proofs.Seconds.{minute-lt, second-range}
 
 -- the second that a record tells is of the calendar
@@ -88,3 +89,25 @@ unfolding isRow
 possible-row n p =
     let l = second-range (n .last) (p .ends) in
     both-hold _ _ (p .ends) (le-leb (n .count) 4000000000 (omega (arith, p .few, minute-lt (n .last) (p .ends))))
+
+-- the newest of these runs, if there is one, grew from one second
+abbrev pub NewestPossible : List Run → Type 0
+NewestPossible [] = Unit {0}
+NewestPossible (n ∷ []) = Possible n
+NewestPossible (n ∷ m ∷ ns) = NewestPossible (m ∷ ns)
+
+pub newest-of : (p : List Run) (x : Run) → NewestPossible (p ++ (x ∷ [])) → Possible x
+newest-of [] x h = h
+newest-of (n ∷ []) x h = h
+newest-of (n ∷ m ∷ p) x h = newest-of (m ∷ p) x h
+
+pub newest-snoc : (p : List Run) (x : Run) → Possible x → NewestPossible (p ++ (x ∷ []))
+newest-snoc [] x h = h
+newest-snoc (n ∷ []) x h = h
+newest-snoc (n ∷ m ∷ p) x h = newest-snoc (m ∷ p) x h
+
+pub newest-extended : (ns : List Run) (s : Second) → NewestPossible ns → follows ns s ≡ true → NewestPossible (extended ns s)
+newest-extended [] s h f = tt
+newest-extended (n ∷ []) s h f = longer-possible n s h f
+newest-extended (n ∷ m ∷ []) s h f = longer-possible m s h f
+newest-extended (n ∷ m ∷ k ∷ ns) s h f = newest-extended (m ∷ k ∷ ns) s h f

@@ -1,9 +1,7 @@
--- W-206, put together.
+-- What is worked out afresh and the last minute, put together.
 use Rattle.runs.specs.Runs.{Runs}
-use Rattle.runs.proofs.Answers.{refusals}
 use Rattle.runs.proofs.LastMinute.{last-minute}
 use Rattle.runs.proofs.Maximal.{maximal, only}
-use Rattle.runs.proofs.Table.{afresh, possible}
 
 pub runs : Runs
-runs = record { afresh = afresh; maximal = maximal; only = only; possible = possible; refusals = refusals; last-minute = last-minute }
+runs = record { maximal = maximal; only = only; last-minute = last-minute }

@@ -1,19 +1,10 @@
--- W-206: which second is the next, and a night with a leap second in the table, as rows of tables.
+-- W-206: which second is the next, as a table.
 use mathlib.Core.Bool.{Bool, true, false}
 use mathlib.Core.List.{List, [], _∷_, map}
 use mathlib.Core.Path.{_≡_}
 use Prim.Native.Nat.{ℕ}
 use Prim.Native.String.{String}
-use lib.ListN.{replicate}
-use Rattle.record.specs.Record.{emptyRecord}
-use Rattle.record.specs.declared.Date.{Date}
-use Rattle.record.specs.declared.Date.the-variants as dateIs
-use Rattle.record.specs.declared.Flag.the-variants.{Yes}
-use Rattle.record.specs.declared.Record.{Record}
-use Rattle.runs.specs.declared.Run.{Run}
 use Rattle.runs.specs.declared.second.Second.{Second}
-use Rattle.runs.specs.Calls.{afterAll, answers, empty, inUse}
-use Rattle.runs.specs.Rows.{noRun, outcomeNumber}
 use Rattle.runs.specs.Seconds.{isNext}
 
 abbrev pub at : ℕ → ℕ → ℕ → ℕ → ℕ → ℕ → Second
@@ -51,49 +42,5 @@ nextCases =
     ∷ opens "an impossible second" (at 23 2 29 0 0 0) (at 23 2 29 0 0 1)
     ∷ []
 
--- a good record of a date and a time
-abbrev pub recordAt : Date → ℕ → ℕ → ℕ → Record
-recordAt d h m s = record {
-  hour = h;
-  minute = m;
-  second = s;
-  date = d;
-  fraction = emptyRecord .fraction;
-  channel = emptyRecord .channel;
-  sync = Yes;
-  fix = emptyRecord .fix;
-  utc = emptyRecord .utc;
-  summer = emptyRecord .summer;
-  change = emptyRecord .change;
-  leap = emptyRecord .leap;
-  offset = emptyRecord .offset;
-  position = emptyRecord .position;
-  dsp = emptyRecord .dsp;
-  lsp = emptyRecord .lsp;
-}
-
-abbrev row : Second → Second → ℕ → Run
-row a b n = record { first = a; last = b; count = n }
-
--- the night of the leap second of 2016, with a second left out, a repeat, a record without a full date and one of no such date
-abbrev pub night : List Record
-night =
-    recordAt (dateIs.Full 16 12 31) 23 59 58
-    ∷ recordAt (dateIs.Full 16 12 31) 23 59 59
-    ∷ recordAt (dateIs.Full 16 12 31) 23 59 60
-    ∷ recordAt (dateIs.Full 17 1 1) 0 0 0
-    ∷ recordAt (dateIs.Full 17 1 1) 0 0 2
-    ∷ recordAt (dateIs.DayOfYear 1) 0 0 3
-    ∷ recordAt (dateIs.Full 17 2 29) 0 0 3
-    ∷ recordAt (dateIs.Full 17 1 1) 0 0 3
-    ∷ recordAt (dateIs.Full 17 1 1) 0 0 3
-    ∷ []
-
-abbrev pub table : List Run
-table = replicate 64 noRun
-
 pub record Cases : Type 0 where
   pub next : map (λ c. isNext (c .first) (c .then)) nextCases ≡ map (λ c. c .next) nextCases
-  pub numbers : map outcomeNumber (answers (empty table) night) ≡ 0 ∷ 0 ∷ 0 ∷ 0 ∷ 0 ∷ 14 ∷ 14 ∷ 0 ∷ 0 ∷ []
-  pub rows : inUse (afterAll (empty table) night)
-      ≡ row (at 16 12 31 23 59 58) (at 17 1 1 0 0 0) 4 ∷ row (at 17 1 1 0 0 2) (at 17 1 1 0 0 3) 2 ∷ row (at 17 1 1 0 0 3) (at 17 1 1 0 0 3) 1 ∷ []

@@ -1,8 +1,6 @@
 pub mod Seconds
 pub mod Heard
 pub mod Rows
-pub mod Calls
 pub mod Afresh
 pub mod Runs
 pub mod Cases
-pub mod Changes

@@ -1,15 +1,16 @@
--- Steps of a walk by hand over a function's statements: an early return, a call of a function on plain values, and a local that is freed at the return.
-use Rattle.walk.proofs.Kit.{ !, [], _$_, _∵_, _∷_, _≡_, _⊛_, ‵, ap, Atoms, await, Bool, Calls, Clauses, done, drop, emp, Ended, ent, Env, fact, false, fat, FmC, forget, frame, free1, ftrue, fullShare, Given, heard, Heap, Is, Item, join, later, List, Loops, move, not, nothing, only, Opds, owns, pick, qed, raw, refl, sem, sep, Seq, some, split, SProp, Step, subst, sym, T, Triple, tripleOf, true, typeAt, URA, use0, use1, Val, via, zero, ⋆, ℕ}
+-- Steps of a walk by hand over a function's statements: an early return, a `while`, a call of a function on plain values, and a local that is freed at the return.
+use Rattle.walk.proofs.Kit.{ !, [], _$_, _∵_, _∷_, _≡_, _⊛_, ‵, ap, Atoms, await, Bool, Calls, Clauses, done, drop, emp, Ended, ent, Env, fact, false, fat, FmC, forget, frame, free1, ftrue, fullShare, Given, heard, Heap, Is, Item, join, later, List, Loops, move, not, nothing, only, Opds, owns, pick, qed, raw, refl, says, sem, sep, Seq, some, split, SProp, Step, subst, sym, T, Triple, tripleOf, true, typeAt, URA, use0, use1, Val, via, zero, ⋆, ℕ}
 use mathlib.Core.Option as option
 use Prim.Native.Nat.{_+_}
-use mir.Syntax.{Body, Name, Opd as Operand, Place, Ty, call, cond, copy, field, place, seq, skip}
+use mathlib.Core.WellFounded.{WellFounded}
+use mir.Syntax.{Body, Name, Opd as Operand, Place, Ty, block, call, cond, copy, exit, field, loop, place, seq, skip}
 use mir.Val.{vbool}
 use base.Logic.{exE, snd∗}
 use base.Fml.{Share, fdies, froom}
 use prog.Memory.{fieldOf}
-use prog.Wp.{Wp, afterSeq, spotOf}
-use types.Kit.{Goal, Post, anyQ, del, frees, lands, mean, nth, post, runs, sel⊢, step}
-use types.Run.{Finds, Opd, branches, first, fld, from, load, look, skips, stop}
+use prog.Wp.{Tables, Wp, afterSeq, afterTurn, exits, next, spotOf}
+use types.Kit.{Goal, Post, anyQ, del, frees, lands, mean, nth, post, prop, runs, sel⊢, step}
+use types.Run.{Finds, Opd, again, blocks, branches, first, fld, from, jumps, load, look, loops, skips, stop}
 use types.Part.{Part, look-in}
 use denote.Laws.{Are, Ises, Makess, Tells, owns-make, shows}
 use denote.RattleType.{Denots, RattleType, Valss}
@@ -31,6 +32,12 @@ pub plain-args : {M : Type 1} (𝓤 : URA M) (H : Heap 𝓤) (A : Atoms 𝓤) �
     → ent 𝓤 (emp 𝓤) (sep 𝓤 (sep 𝓤 (sem 𝓤 H A ftrue) (sem 𝓤 H A (owns Rs a vss))) (emp 𝓤))
 plain-args 𝓤 H A W Rs mk a vss are =
     qed W [] ∵ use0 W (‵ (owns Rs a vss)) (owns-make 𝓤 H A Rs (Ises Rs) mk a vss are) $ nothing ! $ join ! $ frame ! $ done !
+
+-- the same where the function requires something
+pub plain-args-where : {M : Type 1} (𝓤 : URA M) (H : Heap 𝓤) (A : Atoms 𝓤) → Given 𝓤 H A → (Rs : List RattleType) → Makess 𝓤 H A Rs (Ises Rs) → (a : Denots Rs) (vss : Valss Rs) → Are Rs (Ises Rs) a vss
+    → (φ : Type 0) → φ → ent 𝓤 (emp 𝓤) (sep 𝓤 (sep 𝓤 (sem 𝓤 H A ftrue) (sem 𝓤 H A (owns Rs a vss))) (fact 𝓤 φ))
+plain-args-where 𝓤 H A W Rs mk a vss are φ h =
+    qed W [] ∵ says ! h $ use0 W (‵ (owns Rs a vss)) (owns-make 𝓤 H A Rs (Ises Rs) mk a vss are) $ nothing ! $ done !
 
 -- the first two entries by what they are
 heads : {M : Type 1} (𝓤 : URA M) (H : Heap 𝓤) (A : Atoms 𝓤) (i i′ j j′ : Item 𝓤) (Δ : List (Item 𝓤)) (P : SProp 𝓤) → i ≡ i′ → j ≡ j′
@@ -70,6 +77,11 @@ module _ {M : Type 1} {𝓤 : URA M} {H : Heap 𝓤} {A : Atoms 𝓤} {K : Type 
       → (y ≡ false → Seq K W Γ (runs C Λ E b q)) → Seq K W Γ (runs C Λ E (seq (cond c a skip) b) q)
   early t {y = y} o held failed = first t $ branches t o (λ h. held (holds y h)) (λ n. skips t $ record { prf = failed (fails y n) .prf })
 
+  -- the test at the head of a turn: the turn goes on, or the loop is left
+  pub tested : K → {c : Operand} {n : ℕ} {b : Body} {y : Bool} → Opd K W Γ E c (vbool y) → (y ≡ true → Seq K W Γ (runs C Λ E b q)) → (y ≡ false → Seq K W Γ (prop (post 𝓤 H q (exits n))))
+      → Seq K W Γ (runs C Λ E (seq (cond c skip (exit n)) b) q)
+  tested t {y = y} o held failed = first t $ branches t o (λ h. skips t $ record { prf = held (holds y h) .prf }) (λ n. jumps t $ record { prf = failed (fails y n) .prf })
+
   -- a call of a function on plain values: its arguments are had for nothing, and what comes back is its result, at the machine value of it, and what its clause says of it
   pub asks : K → FmC 𝓤 H (W .laws) C → {f : Name} {xs : List Operand} {d : Place} {rest : Body} (T : Ended) (cl : Clauses 𝓤 T)
       → Triple 𝓤 (C f) (tripleOf 𝓤 H A (T .signature) (closing 𝓤 H A T cl))
@@ -87,3 +99,12 @@ module _ {M : Type 1} {𝓤 : URA M} {H : Heap 𝓤} {A : Atoms 𝓤} {K : Type 
       split t $ move t (1 ∷ []) $ use1 W (raw (fact 𝓤 (φ r))) (exE 𝓤 _ (λ ws. via 𝓤 _ (snd∗ 𝓤 (sem 𝓤 H A (lasts T (x .0 .0) (x .0 .3) ws)) (cl (x .0 .0) (x .0 .3) .ensures (x .1) r (atExit T (x .0 .0) (x .0 .3) ws))) (clause r (atExit T (x .0 .0) (x .0 .3) ws)))) $
       heard t (φ r) (λ e. split t $ drop t $ facts t (typeAt (T .signature .result) (x .0 .0)) (Is (typeAt (T .signature .result) (x .0 .0))) (shows 𝓤 H A (typeAt (T .signature .result) (x .0 .0))) r (v ∷ []) (λ is.
       subst (λ (w : Val). Is (typeAt (T .signature .result) (x .0 .0)) r (w ∷ []) → Seq K W Γ (lands C Λ E d w rest q)) (ap only (sym (tells r (v ∷ []) is))) (k r e) is))))
+
+-- `while`, and what comes after it: a turn from the invariant at x ends in the invariant at some y below x, or leaves the loop
+module _ {M : Type 1} {𝓤 : URA M} {H : Heap 𝓤} {A : Atoms 𝓤} {K : Type 0} {W : Given 𝓤 H A} {X : Type 0} where
+  pub whiles : K → (𝓣 : Tables 𝓤 H) (≺ : X → X → Type 0) → WellFounded ≺ → (I : X → List (Item 𝓤)) {E : Env 𝓤 H} {b rest : Body} {q : Post 𝓤 H}
+      → ((x : X) (Q : Post 𝓤 H) → ((y : X) → ≺ y x → Seq K W (I y) (prop (post 𝓤 H Q next)))
+      → ((Γ : List (Item 𝓤)) → Step K W Γ (runs (𝓣 .C) (𝓣 .Λ) E rest q) Γ (prop (post 𝓤 H Q (exits 1)))) → Seq K W (I x) (runs (𝓣 .C) (𝓣 .Λ) E b Q))
+      → (x : X) → Seq K W (I x) (runs (𝓣 .C) (𝓣 .Λ) E (seq (block (loop b)) rest) q)
+  unfolding afterTurn
+  whiles t 𝓣 ≺ wf I turn x = first t $ blocks t $ loops t 𝓣 ≺ wf I (λ u. turn u _ (λ v l. again t ≺ I u v l) (λ Γ. step (λ s. record { prf = s .prf }))) x

@@ -1,0 +1,12 @@
+pub mod Changes
+pub mod Own
+pub mod Surveys
+pub mod Stored
+pub mod Answers
+pub mod Alone
+pub mod Tables
+pub mod Calls
+pub mod Arrival
+pub mod Racks
+pub mod Cases
+pub mod Values

@@ -1,0 +1,5 @@
+pub mod Rows
+pub mod Calls
+pub mod Racks
+pub mod Cases
+pub mod Changes
