@@ -104,9 +104,9 @@ fn answer_feed(state: State, byte: u8) -> String {
 pub fn answer(line: &str) -> Option<String> {
     let words: Vec<&str> = line.split_whitespace().collect();
     match words[..] {
-        ["add", length, used, table, fields] => {
+        ["add", length, used, rack, rows, fields] => {
             let record = convert::record(&parse_fields(fields)?);
-            return runs::answer_add(length, used, table, &record);
+            return runs::answer_add([length, rows], used, rack, &record);
         }
         ["addall", records] => return runs::answer_add_all(records),
         _ => {}

@@ -1,8 +1,9 @@
-//! The runs of W-206 as requests, so that no end of a day, no date, no length of a table and no
-//! number in use is left to a draw.
+//! The runs of W-206 as requests, so that no end of a day, no date and no count is left to a draw; and
+//! behind them those of the racks of W-207.
 
 use crate::calendar::days_in_month;
-use crate::protocol::{spell_fields, spell_records, spell_table};
+use crate::every_rack;
+use crate::protocol::{spell_add, spell_records};
 use crate::record::Record;
 use crate::runs::{minute_after, Row, Second, HIGHEST_COUNT, ROWS};
 
@@ -35,7 +36,8 @@ const FIRST_OF_A_DAY: [Time; 2] = [[0, 0, 0], [0, 0, 1]];
 
 /// The last seconds of a day and the first of the next as they follow one another, and then each of
 /// those last seconds with each of the first ones of two other days. All of these pairs stand in one
-/// list; between two of them the clock is set back, so that each opens a row.
+/// list; between two of them the clock is set back, so that each opens a row. Both racks hear every
+/// second, so that between two of one rack there is always one of the other.
 fn pairs_of_days(day: Day, others: [Day; 2]) -> String {
     let mut seconds = LAST_OF_A_DAY.map(|last| at(day, last)).to_vec();
     seconds.push(at(others[0], FIRST_OF_A_DAY[0]));
@@ -46,39 +48,35 @@ fn pairs_of_days(day: Day, others: [Day; 2]) -> String {
             }
         }
     }
-    let records: Vec<Record> = seconds.iter().map(Second::record).collect();
+    let both = |second: &Second| [(0, second.record()), (1, second.record())];
+    let records: Vec<(u32, Record)> = seconds.iter().flat_map(both).collect();
     format!("addall {}", spell_records(&records))
 }
 
-/// Each day with the day after it and the one after that. After the calendar's last day its first
+/// A day with the day after it and the one after that. After the calendar's last day its first
 /// stands, which does not follow it.
+fn end_of_day(days: &[Day], place: usize) -> String {
+    let day = |place: usize| days[place % days.len()];
+    pairs_of_days(day(place), [day(place + 1), day(place + 2)])
+}
+
 fn ends_of_days() -> impl Iterator<Item = String> {
     let days = days();
-    let number = days.len();
-    let day = move |place: usize| days[place % number];
-    (0..number).map(move |place| pairs_of_days(day(place), [day(place + 1), day(place + 2)]))
+    (0..days.len()).map(move |place| end_of_day(&days, place))
 }
 
-/// One call on a table whose newest row is the one at `used - 1`, if the table has such a row.
-fn call(length: usize, used: u32, newest: Row, heard: Second) -> String {
-    let mut table = vec![Row::default(); length];
-    let place = (used as usize).checked_sub(1);
-    if let Some(row) = place.and_then(|place| table.get_mut(place)) {
-        *row = newest;
-    }
-    let (table, fields) = (spell_table(&table), spell_fields(&heard.record()));
-    format!("add {length} {used} {table} {fields}")
+/// One rack's call on a table whose rows are all of rack 0, the newest at `used - 1`. Of that row only
+/// the last second and the count are told.
+fn call(used: u32, last: Second, count: u32, rack: u32, heard: Second) -> String {
+    let mut table = vec![Row::default(); ROWS];
+    table[used as usize - 1].last = last;
+    table[used as usize - 1].count = count;
+    spell_add(&table, used, rack, &heard.record())
 }
 
-/// A row of which only the last second and the count are told.
-fn row(last: Second, count: u32) -> Row {
-    let first = Second::default();
-    Row { first, last, count }
-}
-
-/// A record after a newest row, the only one in use.
+/// A record after a newest row of its own rack, the only one in use.
 fn after(last: Second, heard: Second) -> String {
-    call(ROWS, 1, row(last, 1), heard)
+    call(1, last, 1, 0, heard)
 }
 
 /// Hours at the ends of a day and of a digit.
@@ -130,9 +128,10 @@ fn seconds() -> impl Iterator<Item = Second> {
     dates.chain(other_numbers())
 }
 
-/// As the last second of a newest row. The record opens a row if that second is possible.
-fn seconds_in_rows() -> impl Iterator<Item = String> {
-    seconds().map(|last| after(last, at(LEAP_DAY, [23, 59, 59])))
+/// As the last second of a newest row, the rack's own or the other's. The record opens a row if that
+/// second is possible.
+fn seconds_in_rows(rack: u32) -> impl Iterator<Item = String> {
+    seconds().map(move |last| call(1, last, 1, rack, at(LEAP_DAY, [23, 59, 59])))
 }
 
 /// As the second of a record.
@@ -150,39 +149,31 @@ fn high_bits() -> impl Iterator<Item = String> {
     })
 }
 
-/// Every length up to two rows too many with every number in use up to two too many.
-fn lengths_and_numbers_in_use() -> impl Iterator<Item = String> {
-    let pairs = |length| (0..=66).map(move |used| (length, used));
-    let newest = row(at(LEAP_DAY, [23, 59, 59]), 1);
-    let pairs = (0..=66).flat_map(pairs);
-    pairs.map(move |(length, used)| call(length, used, newest, at([24, 3, 1], [0, 0, 0])))
-}
-
-/// Counts around the highest that is taken, and at both ends, with a record that joins and one that
-/// does not, and with 1, 63 and 64 in use.
-fn counts() -> impl Iterator<Item = String> {
+/// Counts around the highest that is taken, and at both ends, in a newest row of the rack itself or of
+/// the other, with a record that follows it and one that does not, and with 1, 31 and 32 in use.
+fn counts(rack: u32) -> impl Iterator<Item = String> {
     let around = HIGHEST_COUNT - 5..=HIGHEST_COUNT + 5;
     let counts = (0..=5).chain(around).chain(u32::MAX - 5..=u32::MAX);
-    let uses = |count| [1, 63, 64].map(|used| (count, used));
+    let uses = |count| [1, 31, 32].map(|used| (count, used));
     let heard = |(count, used)| [0, 1].map(|second| (count, used, second));
     let calls = counts.flat_map(uses).flat_map(heard);
-    calls.map(|(count, used, second)| {
-        let newest = row(at(LEAP_DAY, [23, 59, 59]), count);
-        call(ROWS, used, newest, at([24, 3, 1], [0, 0, second]))
+    calls.map(move |(count, used, second)| {
+        let last = at(LEAP_DAY, [23, 59, 59]);
+        call(used, last, count, rack, at([24, 3, 1], [0, 0, second]))
     })
 }
 
-/// Calls and lists of calls over every end of a day, every date and every number: some 170,000
-/// requests, of which 36,525 are lists of 28 records.
+/// Calls and lists of calls over every end of a day, every date and every number, and those of the
+/// racks: some 270,000 requests, of which 36,525 are lists of 56 records.
 pub fn requests() -> impl Iterator<Item = String> {
     ends_of_days()
         .chain(ends_of_minutes())
         .chain(pairs_within_a_day())
-        .chain(seconds_in_rows())
+        .chain((0..2).flat_map(seconds_in_rows))
         .chain(seconds_in_records())
         .chain(high_bits())
-        .chain(lengths_and_numbers_in_use())
-        .chain(counts())
+        .chain((0..2).flat_map(counts))
+        .chain(every_rack::requests())
 }
 
 #[cfg(test)]
@@ -216,15 +207,17 @@ mod tests {
     #[test]
     fn a_run_and_two_pairs_of_twelve_join_at_the_end_of_each_day_but_the_last() {
         // Of all days every twenty-third, and the last one among them.
-        let lists: Vec<String> = ends_of_days().step_by(23).collect();
+        let days = days();
+        let places = (0..days.len()).step_by(23);
+        let lists: Vec<String> = places.map(|place| end_of_day(&days, place)).collect();
         let last = lists.len() - 1;
         assert!(lists[last].contains("full:79:12:31,23:59:60"));
         for (place, list) in lists.iter().enumerate() {
             let answer = answer(list);
             let calls = answer.split(' ').next().unwrap();
             assert!(calls.split(';').all(|call| call.starts_with("0:")));
-            // A row for the run and two for each pair that does not join, else one.
-            let in_use = if place == last { 2 + 24 } else { 1 + 22 };
+            // For each rack a row for the run and two for each pair that does not join, else one.
+            let in_use = 2 * if place == last { 2 + 24 } else { 1 + 22 };
             assert!(calls.ends_with(&format!("0:{in_use}")), "{list} {calls}");
         }
     }
@@ -246,22 +239,24 @@ mod tests {
         // All days of a hundred years, 24 hours, 60 minutes and 61 seconds.
         let possible = 36_525 + 24 + 60 + 61;
         let others = 46_200 + 156 + 300 - possible;
-        let rows = numbers_answered(seconds_in_rows());
-        assert_eq!(rows, [(0, possible), (21, others)].into());
+        for rack in [0, 1] {
+            let rows = numbers_answered(seconds_in_rows(rack));
+            assert_eq!(rows, [(0, possible), (21, others)].into());
+        }
         let records = numbers_answered(seconds_in_records());
         assert_eq!(records, [(0, possible), (14, others)].into());
         assert_eq!(numbers_answered(high_bits()), [(21, 6 * 25)].into());
     }
 
     #[test]
-    fn each_length_number_in_use_and_count_is_taken_or_refused() {
-        let numbers = numbers_answered(lengths_and_numbers_in_use());
-        assert_eq!(numbers, [(0, 65), (21, 67 * 67 - 65)].into());
+    fn each_count_is_taken_or_refused() {
         // Six counts from zero on and six up to the highest that is taken; five over it and the last
-        // six of all. A record that does not join needs a row, of which 64 leave none.
+        // six of all. A record that does not join needs a row, of which 32 leave none; the other rack
+        // has none in use.
         let (good, over) = (6 + 6, 5 + 6);
-        let numbers = numbers_answered(counts());
-        let expected = [(0, good * 5), (15, good), (21, over * 6)];
-        assert_eq!(numbers, expected.into());
+        let own = [(0, good * 5), (15, good), (21, over * 6)];
+        assert_eq!(numbers_answered(counts(0)), own.into());
+        let others = [(0, good * 6), (21, over * 6)];
+        assert_eq!(numbers_answered(counts(1)), others.into());
     }
 }

@@ -9,12 +9,15 @@ use crate::protocol::{hex, spell_fields};
 use crate::record::{Date, Fraction, Position, Record};
 use crate::serial::{number, spa_sum, spell_sum};
 
+mod lists;
+mod racks;
 mod rmc;
+mod rows;
 mod runs;
 mod tables;
 
 #[cfg(test)]
-pub(crate) use runs::record_list;
+pub(crate) use lists::record_list;
 
 /// The generator "splitmix64".
 #[derive(Clone, Debug)]
@@ -1049,7 +1052,8 @@ const NOT_THIS_FORM: [u32; 14] = [
     u32::MAX,
 ];
 
-/// The endless list of requests over all forms and kinds; one in twelve is for the runs of W-206.
+/// The endless list of requests over all forms and kinds; one in twelve is for the runs of W-206 and
+/// W-207.
 #[derive(Clone, Debug)]
 pub struct Requests {
     random: Random,

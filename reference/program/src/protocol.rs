@@ -7,7 +7,7 @@ use crate::{read, search, write};
 
 mod runs;
 
-pub use runs::{parse_records, parse_table, spell_records, spell_table};
+pub use runs::{parse_records, parse_table, spell_add, spell_records, spell_table};
 
 /// What a buffer is filled with before a write.
 pub const FILLING: u8 = 0x55;
@@ -266,9 +266,10 @@ fn understood(line: &str) -> Option<String> {
                 _ => None,
             }
         }
-        ["add", length, used, table, fields] => Some(runs::answer_add(
+        ["add", length, used, rack, table, fields] => Some(runs::answer_add(
             parse_table(parse_number(length)?, table)?,
             parse_number(used)?,
+            parse_number(rack)?,
             &parse_fields(fields)?,
         )),
         ["addall", records] => Some(runs::answer_add_all(&parse_records(records)?)),

@@ -1,11 +1,17 @@
-//! Document 02, W-206 ("Which seconds were really heard"): the runs of heard seconds as rows of a
-//! lent table, and the call that adds a record to it.
+//! Document 02, W-206 ("Which seconds were really heard") and W-207 ("Two racks, one table"): the
+//! runs of heard seconds as rows of a lent table, and the call that adds a rack's record to it.
 
 use crate::calendar;
 use crate::record::{time_in_range, Date, Record};
 
 /// "A lent table of 64 rows." It is lent in any length, and another length is refused.
 pub const ROWS: usize = 64;
+
+/// "Rows carry the rack, 0 or 1"; another number is refused.
+pub const RACKS: u32 = 2;
+
+/// "Each rack may open 32."
+pub const ROWS_OF_A_RACK: usize = 32;
 
 /// "Its count over 4,000,000,000" is refused.
 pub const HIGHEST_COUNT: u32 = 4_000_000_000;
@@ -21,9 +27,10 @@ pub struct Second {
     pub second: u32,
 }
 
-/// A run: seconds of which each is the next of the one before.
+/// A run: seconds of one rack of which each is the next of the one before.
 #[derive(Clone, Copy, Debug, Default, PartialEq, Eq)]
 pub struct Row {
+    pub rack: u32,
     pub first: Second,
     pub last: Second,
     pub count: u32,
@@ -143,25 +150,35 @@ pub fn seconds_after(second: &Second) -> Vec<Second> {
     after
 }
 
-/// Whether the call answers 21 before it looks at the record. With no row in use there is no newest
-/// row, and of that row only the last second and the count are looked at.
+/// Whether a rack's rows in use are too many, or its newest one is refused. Of that row the last
+/// second and the count are looked at; a rack without a row in use has no newest row.
+fn rack_is_refused(in_use: &[Row], rack: u32) -> bool {
+    let own = in_use.iter().filter(|row| row.rack == rack);
+    let newest = own.clone().next_back();
+    own.count() > ROWS_OF_A_RACK
+        || newest.is_some_and(|row| !row.last.is_possible() || row.count > HIGHEST_COUNT)
+}
+
+/// Whether the call answers 21 before it looks at the record. Both racks' rows in use are looked at,
+/// whichever rack the record is of; of the rows beyond, nothing is.
 fn table_is_refused(table: &[Row], used: u32) -> bool {
     if table.len() != ROWS || used > ROWS as u32 {
         return true;
     }
-    if used == 0 {
-        return false;
-    }
-    let newest = &table[used as usize - 1];
-    !newest.last.is_possible() || newest.count > HIGHEST_COUNT
+    let in_use = &table[..used as usize];
+    in_use.iter().any(|row| row.rack >= RACKS)
+        || (0..RACKS).any(|rack| rack_is_refused(in_use, rack))
 }
 
-/// Adds a record to the table, of which the first `used` rows are in use, the newest last. Answers
-/// 0 or the refusal, in the order 21, 14, 15, and the number in use.
+/// Adds a rack's record to the table, of which the first `used` rows are in use, in the order of
+/// arrival. Answers 0 or the refusal, in the order 16, 21, 14, 15, and the number in use.
 ///
-/// The request does not say which number in use a refusal carries. Since refusals change nothing,
+/// The requests do not say which number in use a refusal carries. Since refusals change nothing,
 /// it is here the number that was handed in.
-pub fn add(table: &mut [Row], used: u32, record: &Record) -> (u32, u32) {
+pub fn add(table: &mut [Row], used: u32, rack: u32, record: &Record) -> (u32, u32) {
+    if rack >= RACKS {
+        return (16, used);
+    }
     if table_is_refused(table, used) {
         return (21, used);
     }
@@ -169,18 +186,21 @@ pub fn add(table: &mut [Row], used: u32, record: &Record) -> (u32, u32) {
         Some(heard) if !record.is_bad() => heard,
         _ => return (14, used),
     };
-    if used > 0 {
-        let newest = &mut table[used as usize - 1];
+    let in_use = table[..used as usize].iter_mut();
+    let mut own: Vec<&mut Row> = in_use.filter(|row| row.rack == rack).collect();
+    if let Some(newest) = own.last_mut() {
         if seconds_after(&newest.last).contains(&heard) {
             newest.last = heard;
             newest.count += 1;
             return (0, used);
         }
     }
-    if used == ROWS as u32 {
+    if own.len() == ROWS_OF_A_RACK {
         return (15, used);
     }
+    // Neither rack has over 32 and this one has fewer, so that fewer than 64 are in use.
     table[used as usize] = Row {
+        rack,
         first: heard,
         last: heard,
         count: 1,
@@ -196,12 +216,18 @@ mod tests {
         Second::from_numbers(numbers)
     }
 
-    /// A table of 64 rows of which the one at `used - 1` has this last second and count.
+    /// A table of 64 rows, all of rack 0, of which the one at `used - 1` has this last second and
+    /// count.
     fn table(used: usize, last: [u32; 6], count: u32) -> Vec<Row> {
         let mut table = vec![Row::default(); ROWS];
         table[used - 1].last = at(last);
         table[used - 1].count = count;
         table
+    }
+
+    /// "The table of W-206 is read as the case of rack 0 alone, now with 32."
+    fn add_alone(table: &mut [Row], used: u32, record: &Record) -> (u32, u32) {
+        add(table, used, 0, record)
     }
 
     const LEAP_DAY: [u32; 6] = [24, 2, 29, 23, 59, 59];
@@ -235,15 +261,16 @@ mod tests {
     fn a_join_changes_last_and_count_and_an_opened_row_is_the_next() {
         let (mut joined, mut opened) = (table(3, LEAP_DAY, 7), table(3, LEAP_DAY, 7));
         let next = at([24, 3, 1, 0, 0, 0]);
-        assert_eq!(add(&mut joined, 3, &next.record()), (0, 3));
+        assert_eq!(add_alone(&mut joined, 3, &next.record()), (0, 3));
         assert_eq!(joined, table(3, next.numbers(), 8));
 
         let other = at([24, 3, 1, 0, 0, 1]);
         // What stood in a row that was not in use is gone.
         opened[3] = joined[2];
-        assert_eq!(add(&mut opened, 3, &other.record()), (0, 4));
+        assert_eq!(add_alone(&mut opened, 3, &other.record()), (0, 4));
         let mut expected = table(3, LEAP_DAY, 7);
         expected[3] = Row {
+            rack: 0,
             first: other,
             last: other,
             count: 1,
@@ -254,7 +281,7 @@ mod tests {
     /// The answer, where the call must change nothing.
     fn unchanged(mut table: Vec<Row>, used: u32, record: &Record) -> (u32, u32) {
         let before = table.clone();
-        let answer = add(&mut table, used, record);
+        let answer = add_alone(&mut table, used, record);
         assert_eq!(table, before);
         answer
     }
@@ -288,8 +315,12 @@ mod tests {
         ] {
             assert_eq!(unchanged(table(1, last, 1), 1, &next), (21, 1), "{last:?}");
         }
+        for used in 33..=64 {
+            let over = table(used, LEAP_DAY, 1);
+            assert_eq!(unchanged(over, used as u32, &next), (21, used as u32));
+        }
         for count in [HIGHEST_COUNT + 1, u32::MAX] {
-            assert_eq!(unchanged(table(64, LEAP_DAY, count), 64, &next), (21, 64));
+            assert_eq!(unchanged(table(32, LEAP_DAY, count), 32, &next), (21, 32));
         }
     }
 
@@ -297,8 +328,8 @@ mod tests {
     fn the_highest_count_still_joins_and_is_then_over() {
         let (next, other) = (at([24, 3, 1, 0, 0, 0]), at([24, 3, 1, 0, 0, 1]));
         let mut table = table(1, LEAP_DAY, HIGHEST_COUNT);
-        assert_eq!(add(&mut table.clone(), 1, &other.record()), (0, 2));
-        assert_eq!(add(&mut table, 1, &next.record()), (0, 1));
+        assert_eq!(add_alone(&mut table.clone(), 1, &other.record()), (0, 2));
+        assert_eq!(add_alone(&mut table, 1, &next.record()), (0, 1));
         assert_eq!(table[0].count, HIGHEST_COUNT + 1);
         assert_eq!(unchanged(table, 1, &other.record()), (21, 1));
     }
@@ -325,34 +356,38 @@ mod tests {
     fn refusals_stand_in_the_order_21_14_15() {
         let (next, other) = (at([24, 3, 1, 0, 0, 0]), at([24, 3, 1, 0, 0, 1]));
         for record in refused_with_14() {
-            let over = table(64, LEAP_DAY, HIGHEST_COUNT + 1);
-            assert_eq!(unchanged(over, 64, &record), (21, 64));
+            let over = table(32, LEAP_DAY, HIGHEST_COUNT + 1);
+            assert_eq!(unchanged(over, 32, &record), (21, 32));
             assert_eq!(unchanged(table(1, LEAP_DAY, 1), 65, &record), (21, 65));
-            for used in [1, 64] {
+            for used in [1, 32] {
                 let full = table(used, LEAP_DAY, 1);
                 let used = used as u32;
                 assert_eq!(unchanged(full, used, &record), (14, used), "{record:?}");
             }
             assert_eq!(unchanged(table(1, LEAP_DAY, 1), 0, &record), (14, 0));
         }
-        let mut full = table(64, LEAP_DAY, 1);
-        assert_eq!(unchanged(full.clone(), 64, &other.record()), (15, 64));
-        assert_eq!(add(&mut full, 64, &next.record()), (0, 64));
-        assert_eq!(full, table(64, next.numbers(), 2));
+        let mut full = table(32, LEAP_DAY, 1);
+        assert_eq!(unchanged(full.clone(), 32, &other.record()), (15, 32));
+        assert_eq!(add_alone(&mut full, 32, &next.record()), (0, 32));
+        assert_eq!(full, table(32, next.numbers(), 2));
     }
 
     #[test]
     fn with_no_row_in_use_no_row_is_looked_at() {
-        let mut rows = vec![
-            Row {
-                count: u32::MAX,
-                ..Row::default()
-            };
-            ROWS
-        ];
+        let unused = Row {
+            rack: RACKS,
+            count: u32::MAX,
+            ..Row::default()
+        };
+        let mut rows = vec![unused; ROWS];
         let first = at(LEAP_DAY);
-        assert_eq!(add(&mut rows, 0, &first.record()), (0, 1));
-        assert_eq!((rows[0].first, rows[0].last), (first, first));
-        assert_eq!((rows[0].count, rows[1].count), (1, u32::MAX));
+        assert_eq!(add_alone(&mut rows, 0, &first.record()), (0, 1));
+        let opened = Row {
+            rack: 0,
+            first,
+            last: first,
+            count: 1,
+        };
+        assert_eq!(rows[..2], [opened, unused]);
     }
 }

@@ -113,5 +113,5 @@ fn the_calendar() {
 
 #[test]
 fn runs() {
-    assert_eq!(check("runs.txt"), 122);
+    assert_eq!(check("runs.txt"), 232);
 }

@@ -13,7 +13,9 @@
 //!     search F START HEX              searches from the place START on
 //!     listen F HEX                    starts a listener and feeds it the bytes
 //!     feed F DISTANCE HEX BYTE        feeds one byte to the state F, DISTANCE, kept bytes HEX
-//!     add LENGTH USED TABLE FIELDS    adds a record to a table of LENGTH rows, USED of them in use
+//!     add LENGTH USED RACK TABLE FIELDS
+//!                                     adds a rack's record to a table of LENGTH rows, USED of them
+//!                                     in use
 //!     addall RECORDS                  adds records, one after the other, to an empty table
 //!
 //! The answers, in the same order:
@@ -45,26 +47,27 @@
 //! TABLE, RECORDS and CALLS are lists with `;` between the entries and no spaces; a list without
 //! entries is `-`.
 //!
-//!     TABLE       PLACE:FIRST:LAST:COUNT for each row that is not all zero. FIRST and LAST are
-//!                 seconds, YY:MONTH:DAY:HOUR:MINUTE:SECOND each, so that a row has fourteen
-//!                 numbers. PLACE counts from 0 and is below LENGTH; the newest row is the one at
-//!                 USED - 1. The other numbers, and USED, are any of 0..4294967295, also those of
-//!                 a second that there is not. A row that a request does not give is all zero. An
-//!                 answer gives every row that is not all zero, in the order of their places, so
-//!                 that it shows every row that a call has changed
-//!     RECORDS     FIELDS for each record
+//!     TABLE       PLACE:RACK:FIRST:LAST:COUNT for each row that is not all zero. FIRST and LAST
+//!                 are seconds, YY:MONTH:DAY:HOUR:MINUTE:SECOND each, so that a row has fifteen
+//!                 numbers. PLACE counts from 0 and is below LENGTH; the rows in use are those below
+//!                 USED, the newest last. The other numbers, and USED and RACK, are any of
+//!                 0..4294967295, also those of a second or of a rack that there is not. A row that
+//!                 a request does not give is all zero, and so of rack 0. An answer gives every row
+//!                 that is not all zero, in the order of their places, so that it shows every row
+//!                 that a call has changed
+//!     RECORDS     RACK=FIELDS for each record
 //!     CALLS       N:USED for each call, in the order of the records
 //!
-//! `add` makes one call, with the table and USED as they are given. `addall` starts with a table of
-//! 64 rows, all zero, and 0 in use; each call is handed the table and the number in use that the call
-//! before it left. The number in use of a refusal is the one that was handed in. For example:
+//! `add` makes one call, with the table, USED and RACK as they are given. `addall` starts with a table
+//! of 64 rows, all zero, and 0 in use; each call is handed the table and the number in use that the
+//! call before it left. The number in use of a refusal is the one that was handed in. For example:
 //!
-//!     add 64 1 0:16:12:31:23:59:58:16:12:31:23:59:59:2 full:16:12:31,23:59:60,-,-,-,-,-,-,-,-,-,-,-,-
-//!     0 1 0:16:12:31:23:59:58:16:12:31:23:59:60:3
+//!     add 64 1 0 0:0:16:12:31:23:59:58:16:12:31:23:59:59:2 full:16:12:31,23:59:60,-,-,-,-,-,-,-,-,-,-,-,-
+//!     0 1 0:0:16:12:31:23:59:58:16:12:31:23:59:60:3
 //!
 //! `generate` keeps to values that fit in 8 bits (date, time, channel), 16 bits (day of year,
 //! altitude, signed offset) or 32 bits (fraction, signed latitude and longitude) in a record. In a
-//! table any number may have 32 bits, and LENGTH is at most 65.
+//! table any number may have 32 bits, and a RACK too; LENGTH is at most 65.
 
 use std::env;
 use std::io::{self, BufRead, BufWriter, Write};

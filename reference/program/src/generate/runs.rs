@@ -1,7 +1,6 @@
-//! Requests for the runs of W-206: seconds and records in turn, and lists of them.
+//! Requests for the runs of W-206 and W-207: seconds and records in turn.
 
-use super::{good_date, good_full_date, good_record, spoil, tables, Random};
-use crate::protocol::spell_records;
+use super::{good_date, good_full_date, good_record, lists, spoil, tables, Random};
 use crate::record::{Date, Record};
 use crate::runs::{seconds_after, Second};
 
@@ -120,10 +119,11 @@ fn jump(heard: &[Second], random: &mut Random) -> Second {
     }
 }
 
-/// Up to 200 records as a clock sends them, with one jump in so many of them, from a list of nothing
-/// else to a list of nearly none.
-pub(crate) fn record_list(random: &mut Random) -> Vec<Record> {
-    let length = random.number(200, &[0, 1, 2, 64, 65, 66, 200]) as usize;
+/// Up to so many records as a clock sends them, with one jump in so many of them, from a list of
+/// nothing else to a list of nearly none.
+pub(super) fn clock(longest: usize, random: &mut Random) -> Vec<Record> {
+    let edges = [0, 1, 2, 32, 33, 34, 100, longest as u32];
+    let length = random.number(longest as u32, &edges) as usize;
     let calm = random.pick(&[1, 2, 4, 16, 64]);
     let mut heard = vec![good_second(random)];
     let mut records = Vec::new();
@@ -152,7 +152,7 @@ pub(crate) fn record_list(random: &mut Random) -> Vec<Record> {
 /// A single call, or sometimes a list, which takes as long as many calls.
 pub(super) fn request(random: &mut Random) -> String {
     if random.one_in(10) {
-        format!("addall {}", spell_records(&record_list(random)))
+        lists::request(random)
     } else {
         tables::request(random)
     }
@@ -165,19 +165,28 @@ mod tests {
 
     #[test]
     fn one_request_in_twelve_is_for_runs_and_some_are_lists() {
-        let (mut single, mut lists, mut full, mut longest) = (0, 0, 0, 0);
+        let (mut single, mut lists, mut refused, mut full) = (0, 0, [0, 0], 0);
+        let mut longest = 0;
         for request in Requests::new(5).take(28_800) {
             if request.starts_with("add ") {
                 single += 1;
             } else if request.starts_with("addall ") {
                 lists += 1;
                 let answer = answer(&request);
-                full += usize::from(answer.contains("15:64"));
-                longest = longest.max(answer.split(' ').next().unwrap().split(';').count());
+                let calls: Vec<&str> = answer.split(' ').next().unwrap().split(';').collect();
+                let met = |start: &str| calls.iter().any(|call| call.starts_with(start));
+                refused[0] += usize::from(met("15:"));
+                refused[1] += usize::from(met("16:"));
+                full += usize::from(met("15:64"));
+                longest = longest.max(calls.len());
             }
         }
         assert_eq!(single + lists, 2400);
-        assert!((100..300).contains(&lists) && full > 20, "{lists} {full}");
+        assert!((100..300).contains(&lists), "{lists}");
+        assert!(
+            refused[0].min(refused[1]).min(full) > 20,
+            "{refused:?} {full}"
+        );
         assert_eq!(longest, 200);
     }
 }
