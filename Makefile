@@ -27,7 +27,7 @@ command := $(or $(CARGO_TARGET_DIR),target/cargo)/release/lindenscoop
 proved := crates.txt $(shell find crates -type f -not -path '*/must-fail/*')
 rust := Cargo.toml .cargo/config.toml $(shell find command bindings/rust -name '*.rs' -o -name Cargo.toml)
 module := $(notdir $(wildcard python/lindenscoop/*.py))
-described := read write search start feed feed_all mark full_year days_since_1980 add_second runs_clear second_date message
+described := read write search start feed feed_all mark full_year days_since_1980 add_second runs_clear runs_clear_rack second_date message
 D = $(DESTDIR)
 put = $(INSTALL) -D -m
 

@@ -18,11 +18,11 @@ import tempfile
 
 ROOT = pathlib.Path(__file__).resolve().parent.parent
 LIBRARY = ROOT / "target/staticlib/liblindenscoop.a"
-NAMES = ("read", "write", "search", "start", "feed", "feed_all", "mark", "full_year", "days_since_1980", "add_second")
+NAMES = ("read", "write", "search", "start", "feed", "feed_all", "mark", "full_year", "days_since_1980", "add_rack_second")
 # those that take no record
 RAW = ("start", "mark", "full_year", "days_since_1980")
 # bytes that a record handed over by value takes of the stack, which is kept at multiples of 16
-BY_VALUE = {"add_second": 128}
+BY_VALUE = {"add_rack_second": 128}
 
 
 def exported(name):

@@ -12,7 +12,8 @@ warn='-Wall -Wextra -Wpedantic -Wconversion -Wsign-conversion -Wshadow -Werror'
 sane='-g -O1 -fsanitize=address,undefined -fno-sanitize-recover=all'
 cc=${CC:-cc} cxx=${CXX:-c++}
 
-# Every exported function is declared, ends in _numbers where it takes a record and in _raw where it takes none, and has one of the plain name over it.
+# Every exported function is declared, ends in _numbers where it takes a record and in _raw where it takes none, and has one of the plain name
+# over it. That of the rows with a rack has the rack in its name, since by the name without it rows of another size were handed over.
 exported=$(nm -g --defined-only "$lib" | sed -n 's/^.* T //p' | sort)
 declared=$(sed -n 's/^LINDENSCOOP_NOT_NULL [a-z0-9_]* \(lindenscoop_[a-z0-9_]*\)(.*;$/\1/p' "$include/lindenscoop.h" | sort)
 [ -n "$exported" ] && [ "$exported" = "$declared" ] || { printf 'test-c: the library exports\n%s\nand the header declares\n%s\n' "$exported" "$declared" >&2; exit 1; }
@@ -22,6 +23,7 @@ for name in $exported; do
         end=_numbers
     fi
     plain=${name%"$end"}
+    case $plain in lindenscoop_add_rack_second) plain=lindenscoop_add_second ;; esac
     [ "$plain" != "$name" ] && grep -q "^static inline .* $plain(" "$include/lindenscoop.h" \
         || { echo "test-c: $name does not end in $end, or there is no function of the name without it" >&2; exit 1; }
 done
@@ -57,9 +59,9 @@ is_linked() {
 }
 
 # Code from before there were kinds, which took a record's numbers by calls of these names, neither compiles nor links, nor does code that
-# counted days from 2000; by the new names it does both.
+# counted days from 2000 or lent rows without a rack; by the new names it does both.
 for pair in read_raw:read_numbers write_raw:write_numbers search_raw:search_numbers feed_raw:feed_numbers feed_all_raw:feed_all_numbers \
-    day_number_raw:days_since_1980_raw; do
+    day_number_raw:days_since_1980_raw add_second_numbers:add_rack_second_numbers; do
     old=lindenscoop_${pair%:*} new=lindenscoop_${pair#*:}
     is_declared "$new" && is_linked "$new" || { echo "test-c: there is no $new" >&2; exit 1; }
     if is_declared "$old" || ! grep -q "$old.*undeclared\|undeclared.*$old" "$made/declared.log" \
@@ -72,6 +74,20 @@ if is_declared lindenscoop_day_number || ! grep -q 'undeclared' "$made/declared.
     echo 'test-c: code that counts days from 2000 by lindenscoop_day_number still compiles' >&2
     exit 1
 fi
+
+# Code that adds a record without its rack, or takes a row for a run, does not compile; with the rack it does.
+compiles() {
+    printf '#include "lindenscoop.h"\nint main(void) { lindenscoop_record r = {0}; lindenscoop_runs runs = {0}; (void)r, (void)runs; %s; return 0; }\n' "$1" >"$made/racks.c"
+    LC_ALL=C $cc -std=c11 -Werror -fsyntax-only -I$include "$made/racks.c" 2>"$made/racks.log"
+}
+for pair in 'lindenscoop_add_second(&runs, &r):lindenscoop_add_second(&runs, 0, &r)' 'runs.rows[0].count = 1:runs.rows[0].run.count = 1' \
+    'lindenscoop_run *row = runs.rows:lindenscoop_row *row = runs.rows'; do
+    compiles "${pair#*:}" || { echo "test-c: this does not compile: ${pair#*:}" >&2; exit 1; }
+    if compiles "${pair%:*}" || ! grep -q "too few arguments\|no member named 'count'\|incompatible pointer type" "$made/racks.log"; then
+        echo "test-c: code from before there were racks still compiles: ${pair%:*}" >&2
+        exit 1
+    fi
+done
 
 # Code that takes a number for the one unit that it once had, or two digits for a year from 2000 on, does not compile; by the new names it does.
 for pair in fraction_value:fraction_units latitude:latitude_units longitude:longitude_units altitude:altitude_metres year:yy; do

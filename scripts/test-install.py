@@ -17,7 +17,7 @@ import traceback
 
 ROOT = pathlib.Path(__file__).resolve().parent.parent
 COMMANDS = ["listen", "export", "runs", "why", "write", "simulate"]
-FUNCTIONS = ["read", "write", "search", "start", "feed", "feed_all", "mark", "full_year", "days_since_1980", "add_second", "runs_clear", "second_date", "message"]
+FUNCTIONS = ["read", "write", "search", "start", "feed", "feed_all", "mark", "full_year", "days_since_1980", "add_second", "runs_clear", "runs_clear_rack", "second_date", "message"]
 VERSION = subprocess.run([ROOT / "scripts/version"], capture_output=True, text=True).stdout.strip()
 SO = "liblindenscoop.so"
 LINKED = SO + "." + VERSION.rsplit(".", 1)[0]
@@ -246,7 +246,7 @@ def test_manual_of_the_library(prefix, _):
         check(f"{name} in the manual", re.search(rf"\b{name}\b", text), "")
     numbers = dict(re.findall(r"^    (LINDENSCOOP_\w+) = (\d+)", header, re.M))
     refusals = re.findall(r'case (LINDENSCOOP_\w+):\n        return "(.*)";', header)[1:-1]
-    same("how many refusals", len(refusals), 16)
+    same("how many refusals", len(refusals), 17)
     forms = re.findall(r"^    (LINDENSCOOP_\w+) = (\d+)", header.split("/* The forms.")[1].split("};")[0], re.M)
     same("how many forms in the header", len(forms), 12)
     for name, number in forms:

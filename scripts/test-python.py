@@ -133,28 +133,29 @@ def parsed_second(numbers):
 
 def parsed_table(text, length):
     """The rows of a table; one that is not named is all zero."""
-    rows = [ls.Run(parsed_second([0] * 6), parsed_second([0] * 6), 0)] * length
+    rows = [ls.Row(0, ls.Run(parsed_second([0] * 6), parsed_second([0] * 6), 0))] * length
     for row in [] if text == "-" else text.split(";"):
-        place, *numbers = map(int, row.split(":"))
-        rows[place] = ls.Run(parsed_second(numbers[:6]), parsed_second(numbers[6:12]), numbers[12])
+        place, rack, *numbers = map(int, row.split(":"))
+        rows[place] = ls.Row(rack, ls.Run(parsed_second(numbers[:6]), parsed_second(numbers[6:12]), numbers[12]))
     return rows
 
 
 def check_add(form, data, number, expected):
     """A line of one call on a table."""
-    length, used = map(int, form.split()[1:])
+    length, used, rack = map(int, form.split()[1:])
     table, record = data.split(" ")
     used_after, table_after = expected.split(" ")
     runs = ls.Runs.of(parsed_table(table, length), used)
-    same(number_of(runs.add, parsed_record(record)), int(number), f"{form} {data}")
+    same(number_of(runs.add, parsed_record(record), rack), int(number), f"{form} {data}")
     same((runs.used, runs.rows), (int(used_after), parsed_table(table_after, length)[: runs.used]), f"{form} {data}, afterwards")
 
 
 def check_addall(data, numbers, expected):
     """A line of calls from an empty table on."""
     runs, told = ls.Runs(), []
-    for record in [] if data == "-" else data.split(";"):
-        number = number_of(runs.add, parsed_record(record))
+    for call in [] if data == "-" else data.split(";"):
+        rack, record = call.split("=")
+        number = number_of(runs.add, parsed_record(record), int(rack))
         told.append(f"{number}:{runs.used}")
     same((";".join(told) or "-"), numbers, f"addall {data}")
     same(runs.rows, parsed_table(expected, 64)[: runs.used], f"addall {data}, afterwards")
@@ -515,8 +516,8 @@ def record_at(second, **more):
     return ls.Record(second.hour, second.minute, second.second, second.date, **more)
 
 
-def alone(second):
-    return ls.Run(second, second, 1)
+def alone(second, rack=0):
+    return ls.Row(rack, ls.Run(second, second, 1))
 
 
 def follows(before, after):
@@ -534,11 +535,13 @@ def afresh(seconds):
     return [ls.Run(part[0], part[-1], len(part)) for part in parts]
 
 
-def added(before, after):
-    """What is told of a second behind another one, and the rows."""
+def added(before, after, rack=0, between=None):
+    """What is told of a second behind another one of the same rack, and the rows; the other rack heard one in between."""
     runs = ls.Runs()
-    same((runs.add(record_at(before)), runs.rows, runs.used), ("opened", [alone(before)], 1), f"{before} in an empty table")
-    return runs.add(record_at(after)), runs.rows
+    same((runs.add(record_at(before), rack), runs.rows, runs.used), ("opened", [alone(before, rack)], 1), f"{before} in an empty table")
+    if between:
+        same((runs.add(record_at(between), 1 - rack), runs.rows), ("opened", [alone(before, rack), alone(between, 1 - rack)]), f"{between} of the other rack")
+    return runs.add(record_at(after), rack), runs.rows
 
 
 def test_next_second():
@@ -551,9 +554,13 @@ def test_next_second():
         near |= {dataclasses.replace(second, second=60) for second in near}
         for before in sorted(near, key=str):
             for after in sorted(near, key=str):
-                joins = follows(before, after)
-                expected = ("joined", [ls.Run(before, after, 2)]) if joins else ("opened", [alone(before), alone(after)])
-                same(added(before, after), expected, f"{after} behind {before}")
+                for rack, between in ((0, None), (1, None), (0, before), (1, after)):
+                    other = [alone(between, 1 - rack)] if between else []
+                    if follows(before, after):
+                        expected = "joined", [ls.Row(rack, ls.Run(before, after, 2)), *other]
+                    else:
+                        expected = "opened", [alone(before, rack), *other, alone(after, rack)]
+                    same(added(before, after, rack, between), expected, f"{after} behind {before}, rack {rack}, {between} in between")
 
 
 def test_last_minute():
@@ -589,10 +596,11 @@ def test_leap_second():
     told = [runs.add(record) for record in records]
     seconds = [ls.Second(r.date.year, r.date.month, r.date.day, r.hour, r.minute, r.second) for r in records]
     check(ls.Second(2016, 12, 31, 23, 59, 60) in seconds, "the sample has no leap second")
-    same(runs.rows, afresh(seconds), "the runs of the sample")
-    same([str(run.first)[-8:] for run in runs.rows][:3], ["23:59:51", "23:59:55", "23:59:59"], "where the runs of the sample begin")
+    same(runs.of_rack(0), afresh(seconds), "the runs of the sample")
+    same([str(run.first)[-8:] for run in runs.of_rack(0)][:3], ["23:59:51", "23:59:55", "23:59:59"], "where the runs of the sample begin")
     same((told.count("opened"), told.count("joined")), (len(runs.rows), len(told) - len(runs.rows)), "what was told")
-    same(sum(run.count for run in runs.rows), len(records), "the seconds counted")
+    same(sum(row.run.count for row in runs.rows), len(records), "the seconds counted")
+    same({row.rack for row in runs.rows}, {0}, "the rack where none is named")
 
 
 def wandering(source, length):
@@ -607,58 +615,162 @@ def wandering(source, length):
     return seconds
 
 
+def turns(source, seconds):
+    """The seconds of both racks, each in its order, with their racks."""
+    places = [0, 0]
+    while any(place < len(each) for place, each in zip(places, seconds)):
+        rack = source.randrange(2)
+        if places[rack] < len(seconds[rack]):
+            yield rack, places[rack], seconds[rack][places[rack]]
+            places[rack] += 1
+
+
 def test_runs_afresh():
-    """More runs than rows: taken out whenever a row is wanting, they are those worked out afresh; records that tell no second change nothing."""
+    """More runs than rows: taken out whenever a row is wanting, those of each rack are those worked out afresh; records that tell no second
+    change nothing."""
     source = random.Random(206)
-    for length in (0, 1, 2, 100, 3000, 3000):
-        seconds = wandering(source, length)[:length]
-        runs, heard, tables = ls.Runs(), [], 0
-        for place, second in enumerate(seconds):
-            if number_of(runs.add, record_at(second, sync=True)) == 15:
-                same((runs.used, runs.rows), (64, afresh(seconds[:place])[len(heard) :]), "a full table")
-                heard += runs.take()
-                same((runs.used, runs.rows, runs.add(record_at(second))), (0, [], "opened"), "behind a full table")
-                tables += 1
+    for lengths in ((0, 0), (1, 0), (0, 2), (100, 100), (2000, 300), (2000, 2000)):
+        seconds = [wandering(source, length)[:length] for length in lengths]
+        runs, heard, times = ls.Runs(), [[], []], 0
+        for rack, place, second in turns(source, seconds):
+            if number_of(runs.add, record_at(second, sync=True), rack) == 15:
+                other = runs.of_rack(1 - rack)
+                same(runs.of_rack(rack), afresh(seconds[rack][:place])[len(heard[rack]) :], "a full rack")
+                heard[rack] += runs.take(rack)
+                same((runs.of_rack(rack), runs.of_rack(1 - rack), runs.used), ([], other, len(other)), "the rows of the other rack")
+                same(runs.add(record_at(second), rack), "opened", "behind a full rack")
+                times += 1
             if source.random() < 0.1:
-                same(number_of(runs.add, ls.Record(second.hour, second.minute, second.second, ls.DayOfYear(60))), 14, "a day of year")
-        same(heard + runs.take(), afresh(seconds), f"the runs of {length} seconds")
-        check(length < 3000 or tables > 2, f"only {tables} full tables")
+                same(number_of(runs.add, ls.Record(second.hour, second.minute, second.second, ls.DayOfYear(60)), rack), 14, "a day of year")
+        same([heard[rack] + runs.take(rack) for rack in (0, 1)], [afresh(each) for each in seconds], f"the runs of {lengths} seconds")
+        same((runs.used, runs.rows), (0, []), "both racks taken")
+        check(sum(lengths) < 1000 or times > 2, f"only {times} full racks")
 
 
-def full_table(used=64):
+def lane(source, rack, records, most):
+    """What one rack is told, and its own runs. Before each of its records come at most so many of the other rack's."""
+    runs, told = ls.Runs(), []
+    others = wandering(source, len(records) * most + 1)
+    for record in records:
+        for _ in range(source.randint(0, most)):
+            number_of(runs.add, source.choice([record, ls.Record()] + [record_at(others.pop())] * 6), 1 - rack)
+        try:
+            told.append(runs.add(record, rack))
+        except ls.Refused as refused:
+            told.append(refused.number)
+    return told, runs.of_rack(rack)
+
+
+def test_racks_apart():
+    """What one rack is told and its own runs are the same with any records of the other rack as with none."""
+    source, full = random.Random(207), 0
+    for time in range(30):
+        records = [record_at(second) for second in wandering(source, (50, 300, 900)[time % 3])]
+        for _ in range(5):
+            records.insert(source.randrange(len(records)), ls.Record())
+        expected = lane(source, 0, records, 0)
+        full += 15 in expected[0]
+        for rack, most in ((0, 1), (0, 4), (1, 0), (1, 2)):
+            same(lane(source, rack, records, most) == expected, True, f"rack {rack} beside at most {most} records of the other before each")
+    check(3 < full < 27, f"{full} full racks")
+
+
+#: in which order the racks opened their rows, 32 each: by turns, one after the other, or three at a time
+LAYOUTS = (lambda row: row % 2), (lambda row: row // 32), (lambda row: 1 - row // 32), (lambda row: (row + 1) // 3 % 2)
+
+
+def full_table(layout=LAYOUTS[0]):
     """Rows that differ from each other, each of a minute of its own."""
-    rows = [ls.Run(ls.Second(2024, 2, 29, 12 + place // 60, place % 60, 0), ls.Second(2024, 2, 29, 12 + place // 60, place % 60, 7), 8 + place) for place in range(64)]
-    return rows, used
+    runs = [ls.Run(ls.Second(2024, 2, 29, 12 + place // 60, place % 60, 0), ls.Second(2024, 2, 29, 12 + place // 60, place % 60, 7), 8 + place) for place in range(64)]
+    return [ls.Row(layout(place), run) for place, run in enumerate(runs)]
+
+
+def newest(rows, used, rack):
+    """Where the newest row of a rack stands, None where it has none in use."""
+    return max((place for place in range(used) if rows[place].rack == rack), default=None)
 
 
 def lent(runs):
     """The rows as the library was lent them, those that are not in use too."""
-    seconds = [[[getattr(second, name) for name, _ in second._fields_] for second in (row.first, row.last)] for row in runs._table]
-    return [(*first, *last, row.count) for (first, last), row in zip(seconds, runs._table)]
+    seconds = [[[getattr(second, name) for name, _ in second._fields_] for second in (row.run.first, row.run.last)] for row in runs._table]
+    return [(row.rack, *first, *last, row.run.count) for (first, last), row in zip(seconds, runs._table)]
 
 
 def numbers_of(rows):
-    seconds = [[(s.year % 100, s.month, s.day, s.hour, s.minute, s.second) for s in (row.first, row.last)] for row in rows]
-    return [(*first, *last, row.count) for (first, last), row in zip(seconds, rows)]
+    seconds = [[(s.year % 100, s.month, s.day, s.hour, s.minute, s.second) for s in (row.run.first, row.run.last)] for row in rows]
+    return [(row.rack, *first, *last, row.run.count) for (first, last), row in zip(seconds, rows)]
 
 
 def test_one_row_is_changed():
     """Of those that are handed out, and of those that the library is lent."""
-    for used in range(65):
-        rows, _ = full_table()
-        runs, other = ls.Runs.of(rows, used), ls.Second(1991, 6, 30, 23, 59, 60)
-        if used:
-            newest = rows[used - 1]
-            after = dataclasses.replace(newest.last, second=8)
-            same(runs.add(record_at(after)), "joined", f"{used} in use")
-            rows[used - 1] = ls.Run(newest.first, after, newest.count + 1)
-        same((runs.used, runs.rows, lent(runs)), (used, rows[:used], numbers_of(rows)), f"{used} in use, joined")
-        if used == 64:
-            same(number_of(runs.add, record_at(other)), 15, "a row behind the last")
+    other = ls.Second(1991, 6, 30, 23, 59, 60)
+    for layout, used, rack in ((layout, used, rack) for layout in LAYOUTS for used in range(65) for rack in (0, 1)):
+        rows = full_table(layout)
+        runs, place, what = ls.Runs.of(rows, used), newest(rows, used, rack), f"{used} in use, rack {rack}"
+        if place is not None:
+            run = rows[place].run
+            after = dataclasses.replace(run.last, second=8)
+            same(runs.add(record_at(after), rack), "joined", what)
+            rows[place] = ls.Row(rack, ls.Run(run.first, after, run.count + 1))
+        same((runs.used, runs.rows, lent(runs)), (used, rows[:used], numbers_of(rows)), f"{what}, joined")
+        if len(runs.of_rack(rack)) == 32:
+            same(number_of(runs.add, record_at(other), rack), 15, f"{what}, a row behind the last")
         else:
-            same(runs.add(record_at(other)), "opened", f"{used} in use")
-            rows[used], used = alone(other), used + 1
-        same((runs.used, runs.rows, lent(runs)), (used, rows[:used], numbers_of(rows)), f"{used} in use, opened")
+            same(runs.add(record_at(other), rack), "opened", what)
+            rows[used], used = alone(other, rack), used + 1
+        same((runs.used, runs.rows, lent(runs)), (used, rows[:used], numbers_of(rows)), f"{what}, opened")
+
+
+def test_each_rack_opens_32_rows():
+    """From an empty table on; behind a row of the other rack with the second that would join it."""
+    for layout in LAYOUTS:
+        runs, expected, moment = ls.Runs(), [], datetime.datetime(2024, 2, 29, 12)
+        for place in range(64):
+            rack = layout(place)
+            moment += datetime.timedelta(seconds=1 if place and layout(place - 1) != rack else 7)
+            same(runs.add(record_at(second_at(moment)), rack), "opened", f"row {place}")
+            expected.append(alone(second_at(moment), rack))
+            for each in (0, 1):
+                if len(runs.of_rack(each)) == 32:
+                    same(number_of(runs.add, ls.Record(date=ls.Date(1991, 1, 1)), each), 15, f"33 rows of rack {each}")
+            same((runs.used, runs.rows), (place + 1, expected), f"row {place}")
+        for rack in (0, 1):
+            place = newest(expected, 64, rack)
+            last = expected[place].run.last
+            expected = replaced(expected, place, last=dataclasses.replace(last, second=last.second + 1), count=2)
+            same((runs.add(record_at(expected[place].run.last), rack), runs.rows), ("joined", expected), f"the newest run of rack {rack} goes on")
+
+
+def test_no_rack():
+    """First of all: where the record would be added, where it tells no second, where no row is left, where the table is none."""
+    rows, wide = full_table(), [dataclasses.replace(row, rack=2) for row in full_table()]
+    for rack in (2, 3, 64, 2**31, 2**32 - 1, 2**32, 2**32 + 1, 2**64, -1, -(2**32)):
+        for record in (ls.Record(12, 0, 8, ls.Date(2024, 2, 29)), ls.Record()):
+            for table, used in ((rows, 0), (rows, 1), (rows, 64), (rows, 65), (rows, -1), (rows[:63], 1), (rows * 2, 1), ([], 0), (wide, 1), (wide, 64)):
+                runs = ls.Runs.of(table, used)
+                same(number_of(runs.add, record, rack), 16, f"rack {rack}, {len(table)} rows, {used} in use")
+                same((runs.used, runs.rows), (used, table[: max(used, 0)]), f"rack {rack}, afterwards")
+        runs = ls.Runs.of(rows, 5)
+        same((runs.of_rack(rack), runs.take(rack), runs.rows), ([], [], rows[:5]), f"the runs of rack {rack}")
+    for wrong in (None, 1.0, True, "0"):
+        for call in (functools.partial(ls.Runs().add, ls.Record()), ls.Runs().of_rack, ls.Runs().take):
+            check("rack is a whole number" in raises(TypeError, call, wrong), f"{wrong!r} for a rack")
+
+
+def test_take():
+    """The runs of one rack in order, and the rows of the other one as they were, which go on."""
+    for layout, used, rack in ((layout, used, rack) for layout in LAYOUTS for used in range(65) for rack in (0, 1)):
+        rows, what = full_table(layout), f"{used} in use, rack {rack} taken"
+        runs = ls.Runs.of(rows, used)
+        own, kept = ([row for row in rows[:used] if (row.rack == rack) == is_own] for is_own in (True, False))
+        same((runs.of_rack(rack), runs.take(rack)), ([row.run for row in own],) * 2, what)
+        same((runs.used, runs.rows, runs.of_rack(rack), runs.take(rack)), (len(kept), kept, [], []), f"{what}, afterwards")
+        same(lent(runs)[: len(kept)], numbers_of(kept), f"{what}, lent")
+        if kept:
+            after = dataclasses.replace(kept[-1].run.last, second=8)
+            same((runs.add(record_at(after), 1 - rack), runs.of_rack(1 - rack)[-1].count), ("joined", kept[-1].run.count + 1), f"{what}, the other goes on")
+    runs = ls.Runs.of(rows, 64)
+    same((len(runs.take()), {row.rack for row in runs.rows}), (32, {1}), "the rack that is taken where none is named")
 
 
 def test_no_second():
@@ -666,11 +778,11 @@ def test_no_second():
     date = {"date": ls.Date(2024, 2, 29)}
     wrong = [{**date, **fields} for fields in bad_records()] + [{}, {"date": None, "sync": True}, {"date": ls.DayOfYear(60)}, {**date, "utc": True, "summer": True}]
     check(len(wrong) > 100, "few bad records")
-    for used in (0, 1, 64):
-        runs = ls.Runs.of(*full_table(used))
+    for used, rack in ((0, 0), (1, 0), (1, 1), (64, 0), (64, 1)):
+        runs = ls.Runs.of(full_table(), used)
         for fields in wrong:
-            same(number_of(runs.add, ls.Record(**fields)), 14, f"{fields}, {used} in use")
-        same((runs.used, runs.rows, lent(runs)), (used, full_table()[0][:used], numbers_of(full_table()[0])), "after records that tell no second")
+            same(number_of(runs.add, ls.Record(**fields), rack), 14, f"{fields}, {used} in use, rack {rack}")
+        same((runs.used, runs.rows, lent(runs)), (used, full_table()[:used], numbers_of(full_table())), "after records that tell no second")
     check("Record" in raises(TypeError, ls.Runs().add, {}), "a dict for a record")
     check(" not " in raises(TypeError, ls.Runs().add, ls.Record(1.0, **date)), "a number with a point for an hour")
 
@@ -684,58 +796,81 @@ def impossible_seconds():
     yield dataclasses.replace(good, year=2023)
 
 
+def replaced(rows, place, **changes):
+    """Rows of which one is changed: its rack, or numbers of its run."""
+    rack, run = changes.pop("rack", rows[place].rack), dataclasses.replace(rows[place].run, **changes)
+    return [*rows[:place], ls.Row(rack, run), *rows[place + 1 :]]
+
+
 def bad_tables():
     """Rows and the number in use of tables that no calls made."""
-    rows, _ = full_table()
+    rows = full_table()
     for length in (0, 1, 8, 63, 65, 128):
         for used in (0, min(length, 8)):
             yield (rows * 2)[:length], used
     for used in (65, 66, 128, 2**32 - 1, 2**32, 2**32 + 8, 2**64 + 8, -1, -(2**32) + 8):
-        yield rows * 1, used
-    for used in (1, 64):
+        yield rows, used
+    # rows in use of no rack, and those that would be of one if cut to 32 bits
+    for rack in (2, 3, 2**31, 2**32 - 1, 2**32, 2**32 + 1, 2**64, -1, -(2**32)):
+        for place, used in ((0, 1), (0, 5), (4, 5), (3, 64), (63, 64)):
+            yield replaced(rows, place, rack=rack), used
+    # over 32 rows of a rack
+    for rack in (0, 1):
+        for used in (33, 34, 63, 64):
+            yield [ls.Row(rack, row.run) for row in rows], used
+        yield replaced(rows, 1 - rack, rack=rack), 64
+    # the newest row of a rack, which is the newest one of the table or stands before rows of the other rack
+    for layout, used, place in ((0, 1, 0), (0, 2, 0), (0, 2, 1), (0, 64, 62), (0, 64, 63), (1, 40, 31), (2, 40, 31), (1, 40, 39)):
         for last in impossible_seconds():
-            yield rows[: used - 1] + [ls.Run(rows[0].first, last, 8)] + rows[used:], used
+            yield replaced(full_table(LAYOUTS[layout]), place, last=last), used
         for count in (4_000_000_001, 2**32 - 1, 2**32, 2**32 + 8, -1):
-            yield rows[: used - 1] + [ls.Run(rows[0].first, rows[0].last, count)] + rows[used:], used
+            yield replaced(full_table(LAYOUTS[layout]), place, count=count), used
 
 
 def test_bad_tables():
-    """Refused before the record is looked at, and left as they are."""
+    """Refused before the record is looked at, whichever rack it is of, and left as they are."""
     tables = list(bad_tables())
-    check(len(tables) > 100, "few bad tables")
+    check(len(tables) > 400, "few bad tables")
     for rows, used in tables:
-        for record in (ls.Record(12, 0, 8, ls.Date(2024, 2, 29)), ls.Record()):
+        for record, rack in ((ls.Record(12, 0, 8, ls.Date(2024, 2, 29)), 0), (ls.Record(12, 1, 8, ls.Date(2024, 2, 29)), 1), (ls.Record(), 0), (ls.Record(), 1)):
             runs = ls.Runs.of(rows, used)
-            same(number_of(runs.add, record), 21, f"{len(rows)} rows, {used} in use")
+            same(number_of(runs.add, record, rack), 21, f"{len(rows)} rows, {used} in use, rack {rack}")
             same((runs.used, runs.rows), (used, rows[: max(used, 0)]), f"{len(rows)} rows, {used} in use, afterwards")
-        same((len(runs.take()), runs.used, runs.add(ls.Record(date=ls.Date(2024, 1, 1)))), (len(rows[: max(used, 0)]), 0, "opened"), "a bad table emptied")
+        taken = [run for rack in sorted({row.rack for row in runs.rows} | {0}) for run in runs.take(rack)]
+        same((len(taken), runs.used, runs.add(ls.Record(date=ls.Date(2024, 1, 1)))), (len(rows[: max(used, 0)]), 0, "opened"), "a bad table emptied")
 
 
 def test_what_is_not_looked_at():
-    """All rows but the newest, and the newest one's first second; a count of 0 and the largest one grow."""
+    """All runs but the newest of each rack, the first seconds, the racks behind the rows in use; a count of 0 and the largest one grow."""
     after, other = ls.Second(2024, 2, 29, 12, 0, 8), ls.Second(1991, 6, 30, 23, 59, 60)
     for wrong in impossible_seconds():
-        for count in (0, 8, 4_000_000_000):
-            rows = [ls.Run(wrong, wrong, 2**32 - 1)] * 64
-            rows[3] = ls.Run(wrong, dataclasses.replace(after, second=7), count)
+        for count, rack in ((0, 0), (8, 1), (4_000_000_000, 0), (4_000_000_000, 1)):
+            bad = ls.Run(wrong, wrong, 2**32 - 1)
+            rows = [ls.Row(place % 2, bad) for place in range(4)] + [ls.Row(7, bad)] * 60
+            rows[2] = rows[3] = ls.Row(1 - rack, ls.Run(wrong, dataclasses.replace(after, second=7), 8))
+            rows[3 - rack] = ls.Row(rack, ls.Run(wrong, dataclasses.replace(after, second=7), count))
             runs = ls.Runs.of(rows, 4)
-            same((runs.add(record_at(other)), runs.rows), ("opened", [*rows[:4], alone(other)]), f"a row opened where {wrong} stands")
+            same((runs.add(record_at(other), rack), runs.rows), ("opened", [*rows[:4], alone(other, rack)]), f"a row opened where {wrong} stands")
             runs = ls.Runs.of(rows, 4)
-            same((runs.add(record_at(after)), runs.used), ("joined", 4), f"{wrong} in other places")
-            same(runs.rows, [*rows[:3], ls.Run(wrong, after, count + 1)], f"{wrong} in other places, afterwards")
-            same(number_of(runs.add, record_at(dataclasses.replace(after, second=9))), 21 if count > 8 else 0, f"behind a count of {count + 1}")
+            same((runs.add(record_at(after), rack), runs.used), ("joined", 4), f"{wrong} in other places")
+            same(runs.rows, replaced(rows[:4], 3 - rack, last=after, count=count + 1), f"{wrong} in other places, afterwards")
+            for each in (0, 1):
+                same(number_of(runs.add, record_at(other), each), 21 if count > 8 else 0, f"behind a count of {count + 1}, rack {each}")
 
 
 def test_rows_of_another_type():
-    rows, _ = full_table()
-    second = rows[0].first
-    for wrong in (0, "row", second, (second, second, 1), {}):
+    rows = full_table()
+    second, run = rows[0].run.first, rows[0].run
+    for wrong in (0, "row", second, run, (0, run), {}):
         check(" not " in raises(TypeError, ls.Runs.of, [wrong] + rows[1:], 1), f"{wrong!r} for a row")
+    for wrong in (None, 0, rows[0], (second, second, 1)):
+        check(" not " in raises(TypeError, ls.Runs.of, [ls.Row(0, wrong)] + rows[1:], 1), f"{wrong!r} for a run")
     for wrong in (None, "12:00:00", ls.Date(2024, 1, 1), datetime.datetime(2024, 1, 1)):
-        check(" not " in raises(TypeError, ls.Runs.of, [ls.Run(wrong, second, 1)] + rows[1:], 1), f"{wrong!r} for a second")
+        check(" not " in raises(TypeError, ls.Runs.of, [ls.Row(0, ls.Run(wrong, second, 1))] + rows[1:], 1), f"{wrong!r} for a second")
     for wrong in (None, 1.0, True, "1"):
         check(" not " in raises(TypeError, ls.Runs.of, rows, wrong), f"{wrong!r} for the number in use")
-        check(" not " in raises(TypeError, ls.Runs.of, [ls.Run(second, second, wrong)] + rows[1:], 1), f"{wrong!r} for a count")
+        check(" not " in raises(TypeError, ls.Runs.of, replaced(rows, 0, rack=wrong), 1), f"{wrong!r} for a rack")
+        check(" not " in raises(TypeError, ls.Runs.of, replaced(rows, 0, count=wrong), 1), f"{wrong!r} for a count")
         check(" not " in raises(TypeError, ls.Runs.of, [alone(dataclasses.replace(second, hour=wrong))] + rows[1:], 1), f"{wrong!r} for an hour")
     check("None" in raises(TypeError, ls.Runs.of, [None] * 64, 1), "None for a row in use")
     same(ls.Runs.of([None] * 64, 0).rows, [], "rows that are not in use")
@@ -744,18 +879,21 @@ def test_rows_of_another_type():
 def test_runs_are_values():
     """What is handed out is the caller's, and cannot be changed from outside."""
     runs = ls.Runs()
-    same((ls.Runs.ROWS, runs.used, runs.rows, runs.take()), (64, 0, [], []), "an empty table")
+    same((ls.Runs.ROWS, ls.Runs.RACKS, ls.Runs.RACK_ROWS), (64, 2, 32), "the sizes")
+    same((runs.used, runs.rows, runs.of_rack(0), runs.take(), runs.take(1)), (0, [], [], [], []), "an empty table")
     second = ls.Second(2024, 2, 29, 12, 0, 7)
-    told = runs.add(record_at(second))
+    told = runs.add(record_at(second), rack=1)
     check(told is ls.Added.OPENED and told == "opened" and f"{told}" == "opened", f"what is told: {told!r}")
     runs.rows.clear()
-    same(runs.rows, [alone(second)], "rows, after the list was cleared")
-    kept = [alone(second)] + [None] * 63
+    runs.of_rack(1).clear()
+    same((runs.rows, runs.of_rack(1), runs.of_rack(0)), ([alone(second, 1)], [alone(second).run], []), "rows, after the list was cleared")
+    kept = [alone(second, 1)] + [None] * 63
     other = ls.Runs.of(kept, 1)
     kept[0] = None
-    same((other.add(record_at(dataclasses.replace(second, second=8))), runs.rows), ("joined", [alone(second)]), "two tables")
+    same((other.add(record_at(dataclasses.replace(second, second=8)), 1), runs.rows), ("joined", [alone(second, 1)]), "two tables")
     check("cannot assign" in raises(dataclasses.FrozenInstanceError, setattr, second, "second", 8), "a Second is changed")
-    check("cannot assign" in raises(dataclasses.FrozenInstanceError, setattr, runs.rows[0], "count", 8), "a Run is changed")
+    check("cannot assign" in raises(dataclasses.FrozenInstanceError, setattr, runs.rows[0], "rack", 0), "a Row is changed")
+    check("cannot assign" in raises(dataclasses.FrozenInstanceError, setattr, runs.rows[0].run, "count", 8), "a Run is changed")
     same((second.date, str(second), len({second, dataclasses.replace(second)})), (ls.Date(2024, 2, 29), "2024-02-29 12:00:07", 1), "a Second")
     same(pickle.loads(pickle.dumps((runs.rows, told))), (runs.rows, told), "rows kept in a file")
 
@@ -962,17 +1100,19 @@ BEFORE_1980 = ("lindenscoop_day_number_raw",)
 SAME_NAMES = "lindenscoop_start_raw", "lindenscoop_mark_raw"
 #: those with which it counts from 1980
 SINCE_1980 = "lindenscoop_full_year_raw", "lindenscoop_days_since_1980_raw"
+#: what took rows without a rack, which are shorter
+BEFORE_RACKS = ("lindenscoop_add_second_numbers",)
 
 
 def test_names_from_before(made):
     """What once meant another thing has another name since, so that a module and a library from before and from after do not go together."""
     library = ctypes.CDLL(str(made))
-    for name in BEFORE_KINDS + BEFORE_1980:
-        check("undefined symbol" in raises(AttributeError, getattr, library, name), f"{name} is there, and a module from before would take minutes for degrees or 1991 for 2091")
+    for name in BEFORE_KINDS + BEFORE_1980 + BEFORE_RACKS:
+        check("undefined symbol" in raises(AttributeError, getattr, library, name), f"{name} is there, and a module from before would take minutes for degrees or 1991 for 2091, or lend rows of another size")
     for name in SAME_NAMES:
         check(hasattr(library, name), f"there is no {name}")
     for names, missing in ((BEFORE_KINDS, "lindenscoop_read_numbers"), (RECORD_NAMES, "lindenscoop_full_year_raw"),
-                           (RECORD_NAMES + SINCE_1980, "lindenscoop_add_second_numbers")):
+                           (RECORD_NAMES + SINCE_1980 + BEFORE_RACKS, "lindenscoop_add_rack_second_numbers")):
         with tempfile.TemporaryDirectory() as folder:
             source, older = pathlib.Path(folder, "older.c"), pathlib.Path(folder, "older.so")
             source.write_text("".join(f"unsigned {name}(void) {{ return 0; }}\n" for name in names + SAME_NAMES + BEFORE_1980))

@@ -19,7 +19,7 @@ from .form import Form
 from .listener import Listener, heard
 from .record import Date, DayOfYear, Fraction, Hundredths, Position, PositionInMinutes, Record
 from .refusal import Refusal, Refused
-from .runs import Added, Run, Runs, Second
+from .runs import Added, Row, Run, Runs, Second
 
 __all__ = [
     "Added",
@@ -35,6 +35,7 @@ __all__ = [
     "Record",
     "Refusal",
     "Refused",
+    "Row",
     "Run",
     "Runs",
     "Second",

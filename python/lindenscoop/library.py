@@ -9,6 +9,8 @@ RECORD_NUMBERS = 29
 LISTENER_BYTES = 70
 LONGEST_STRING = 174
 ROWS = 64
+RACKS = 2
+RACK_ROWS = 32
 
 #: what feed_all answers for a record handed out
 HEARD = 100
@@ -32,10 +34,16 @@ class SecondNumbers(ctypes.Structure):
     _fields_ = [(name, ctypes.c_uint32) for name in ("yy", "month", "day", "hour", "minute", "second")]
 
 
-class Row(ctypes.Structure):
-    """A row of a table of runs."""
+class RunNumbers(ctypes.Structure):
+    """A run."""
 
     _fields_ = [("first", SecondNumbers), ("last", SecondNumbers), ("count", ctypes.c_uint32)]
+
+
+class RowNumbers(ctypes.Structure):
+    """A row of a table of runs."""
+
+    _fields_ = [("rack", ctypes.c_uint32), ("run", RunNumbers)]
 
 
 class AddedNumbers(ctypes.Structure):
@@ -56,10 +64,10 @@ _FUNCTIONS = {
     "lindenscoop_feed_all_numbers": [_state, _size, ctypes.c_void_p, _size, _place, _numbers, _size],
     "lindenscoop_full_year_raw": [ctypes.c_uint32, _numbers],
     "lindenscoop_days_since_1980_raw": [ctypes.c_uint32, ctypes.c_uint32, ctypes.c_uint32, _numbers],
-    "lindenscoop_add_second_numbers": [ctypes.POINTER(Row), _size, ctypes.c_uint32, RecordByValue],
+    "lindenscoop_add_rack_second_numbers": [ctypes.POINTER(RowNumbers), _size, ctypes.c_uint32, ctypes.c_uint32, RecordByValue],
 }
 #: those that answer more than a number
-_ANSWERS = {"lindenscoop_add_second_numbers": AddedNumbers}
+_ANSWERS = {"lindenscoop_add_rack_second_numbers": AddedNumbers}
 
 
 def crossing(value: int) -> int:

@@ -1,4 +1,4 @@
-"""Why an input, a record, a buffer, a state or a table is refused. The meanings are those of README.md, "What a refusal means"."""
+"""Why an input, a record, a rack, a buffer, a state or a table is refused. The meanings are those of README.md, "What a refusal means"."""
 import enum
 
 
@@ -27,8 +27,9 @@ class Refusal(enum.IntEnum):
     NOT_FOUND = 12, "no valid string lies wholly at or after the start of the search"
     OVERLAP = 13, "a valid string ends too close behind the last one; a listener that was started never gives it"
     NO_SECOND = 14, "the record has no full date, or is bad, so that it tells no second"
-    NO_ROW = 15, "a row is needed and all 64 are in use"
-    BAD_TABLE = 21, "a table that no calls made: not of 64 rows, a number in use over 64, or a newest row with an impossible last second or a count over 4,000,000,000"
+    NO_ROW = 15, "a row is needed and this rack has 32 in use"
+    NO_RACK = 16, "there is no rack of this number: the racks are 0 and 1"
+    BAD_TABLE = 21, "a table that no calls made: not of 64 rows, a number in use over 64, a row in use of a rack that is not 0 or 1, over 32 rows of one rack, or a rack's newest row with an impossible last second or a count over 4,000,000,000"
 
 
 class Refused(ValueError):

@@ -7,11 +7,11 @@
  *
  * There are two layers. The exported functions, whose contracts are proved, take each buffer as a pointer and a length, in
  * elements: bytes, numbers or rows. lindenscoop_..._numbers takes a record as its 29 numbers, lindenscoop_..._raw no record. All
- * return the answer, and store what else there is behind pointers, but for lindenscoop_add_second_numbers: it takes the numbers by
- * value, as the struct whose fields they are, and returns the answer and a number beside it in a struct. crates/lindenscoop/specs
+ * return the answer, and store what else there is behind pointers, but for lindenscoop_add_rack_second_numbers: it takes the numbers
+ * by value, as the struct whose fields they are, and returns the answer and a number beside it in a struct. crates/lindenscoop/specs
  * defines what they answer, the comments here say it in words. Over them stands what a C program calls: lindenscoop_read and so on,
  * which take the structs below, lindenscoop_full_year and lindenscoop_days_since_1980, for years with their century,
- * lindenscoop_add_second, for the seconds that were heard, and lindenscoop_get_offset and so on, which say whether a field of a
+ * lindenscoop_add_second, for the seconds that the racks heard, and lindenscoop_get_offset and so on, which say whether a field of a
  * record is there and hand out its value. A flag of no is stored as 1 and the number of an absent field as 0, so
  * `if (record.sync)` and a bare `record.offset_minutes` would mislead.
  *
@@ -20,6 +20,9 @@
  * what was linked before does not run. Code that calls them by the new ones looks at the kinds first: at number 8, counted from 0,
  * that of the fraction, before number 9, and at number 21, that of the position, before numbers 22 to 26. Number 4, the two digits
  * of a year, it hands to lindenscoop_full_year_raw.
+ *
+ * As long as a table was of one rack, lindenscoop_add_rack_second_numbers was named lindenscoop_add_second_numbers, and a row was a
+ * run alone. Rows of that size cannot be handed over by the new name, and by the old one a program does not link.
  *
  * What the exported functions ask of their caller, and nothing else:
  *   - a pointer is not null, also where the length behind it is 0, and is aligned for its type;
@@ -31,7 +34,7 @@
  *   - fewer than 29 numbers for a record, or fewer than 70 bytes for a listener, are refused with
  *     LINDENSCOOP_SHORT_BUFFER before all else, and no buffer is changed. The numbers and bytes behind these are
  *     neither looked at nor changed. A table of runs with any other number of rows than 64, fewer or more, is refused with
- *     LINDENSCOOP_BAD_TABLE before all else;
+ *     LINDENSCOOP_BAD_TABLE before all else but a rack that is not 0 or 1, which is refused with LINDENSCOOP_NO_RACK;
  *   - a call that is refused otherwise leaves every buffer as it was, but for these: a refused read or search stores
  *     the empty record, a start that is refused with 1 stores a state that answers every byte with 11, and 13 moves
  *     the listener on;
@@ -95,6 +98,7 @@ enum {
     LINDENSCOOP_OVERLAP = 13,
     LINDENSCOOP_NO_SECOND = 14,
     LINDENSCOOP_NO_ROW = 15,
+    LINDENSCOOP_NO_RACK = 16,
     LINDENSCOOP_BAD_TABLE = 21,
     LINDENSCOOP_HEARD = 100           /* feed: a record is handed out */
 };
@@ -114,12 +118,15 @@ enum {
     LINDENSCOOP_YES = 2               /* sync .. lsp */
 };
 
-/* Sizes: of a record in numbers, of a listener and of the longest string in bytes, of a table of runs in rows. */
+/* Sizes: of a record in numbers, of a listener and of the longest string in bytes, of a table of runs in rows; how many racks share a
+   table, by the numbers 0 and 1, and how many of its rows each may have in use. */
 enum {
     LINDENSCOOP_RECORD_NUMBERS = 29,
     LINDENSCOOP_LISTENER_BYTES = 70,
     LINDENSCOOP_LONGEST_STRING = 174,
-    LINDENSCOOP_ROWS = 64
+    LINDENSCOOP_ROWS = 64,
+    LINDENSCOOP_RACKS = 2,
+    LINDENSCOOP_RACK_ROWS = 32
 };
 
 /* The version of a listener's layout. It changes whenever the layout does. */
@@ -190,25 +197,32 @@ typedef struct lindenscoop_second {
     uint32_t second;                  /* 0..60 */
 } lindenscoop_second;
 
-/* A run of seconds that were heard one after the other, each the next of the one before: a row of a table. */
+/* A run of seconds that were heard one after the other, each the next of the one before. */
 typedef struct lindenscoop_run {
     lindenscoop_second first;
     lindenscoop_second last;
     uint32_t count;                   /* of the seconds, first and last included */
 } lindenscoop_run;
 
-/* What lindenscoop_add_second_numbers answers: LINDENSCOOP_OK or a refusal, and how many rows are in use now. */
+/* A row of a table: a run, and the rack that heard it. */
+typedef struct lindenscoop_row {
+    uint32_t rack;                    /* 0, 1 */
+    lindenscoop_run run;
+} lindenscoop_row;
+
+/* What lindenscoop_add_rack_second_numbers answers: LINDENSCOOP_OK or a refusal, and how many rows are in use now. */
 typedef struct lindenscoop_added {
     uint32_t answer;
     uint32_t used;
 } lindenscoop_added;
 
-/* A table of runs, in the order in which they were opened: the first `used` rows are in use, and what stands in the others is never
-   looked at. lindenscoop_runs_clear makes it empty. It may be stored and added to later. Any numbers are safe to hand in: where
-   `used` or the newest row shows that no calls made the table, each record is refused with LINDENSCOOP_BAD_TABLE, and it is left
-   as it is. */
+/* A table of the runs of both racks, in the order in which they were opened: the first `used` rows are in use, and what stands in the
+   others is never looked at. lindenscoop_runs_clear makes it empty. From then on, what one rack is told and the list of its own rows
+   are the same whatever the other rack's records are. It may be stored and added to later. Any numbers are safe to hand in: where
+   `used`, a rack, the number of rows of a rack or its newest row shows that no calls made the table, each record, of whichever rack,
+   is refused with LINDENSCOOP_BAD_TABLE, and it is left as it is. */
 typedef struct lindenscoop_runs {
-    lindenscoop_run rows[LINDENSCOOP_ROWS];
+    lindenscoop_row rows[LINDENSCOOP_ROWS];
     uint32_t used;
 } lindenscoop_runs;
 
@@ -229,10 +243,12 @@ LINDENSCOOP_AT(south, 22); LINDENSCOOP_AT(latitude_units, 23); LINDENSCOOP_AT(we
 LINDENSCOOP_AT(altitude_metres, 26); LINDENSCOOP_AT(dsp, 27); LINDENSCOOP_AT(lsp, 28);
 LINDENSCOOP_ASSERT(second_has_no_padding, sizeof(lindenscoop_second) == 6 * sizeof(uint32_t));
 LINDENSCOOP_ASSERT(run_has_no_padding, sizeof(lindenscoop_run) == 13 * sizeof(uint32_t));
+LINDENSCOOP_ASSERT(row_has_no_padding, sizeof(lindenscoop_row) == 14 * sizeof(uint32_t));
 LINDENSCOOP_ASSERT(added_has_no_padding, sizeof(lindenscoop_added) == 2 * sizeof(uint32_t));
 LINDENSCOOP_IN(second, yy, 0); LINDENSCOOP_IN(second, month, 1); LINDENSCOOP_IN(second, day, 2);
 LINDENSCOOP_IN(second, hour, 3); LINDENSCOOP_IN(second, minute, 4); LINDENSCOOP_IN(second, second, 5);
 LINDENSCOOP_IN(run, first, 0); LINDENSCOOP_IN(run, last, 6); LINDENSCOOP_IN(run, count, 12);
+LINDENSCOOP_IN(row, rack, 0); LINDENSCOOP_IN(row, run, 1);
 LINDENSCOOP_IN(added, answer, 0); LINDENSCOOP_IN(added, used, 1);
 #undef LINDENSCOOP_AT
 #undef LINDENSCOOP_IN
@@ -289,16 +305,17 @@ LINDENSCOOP_NOT_NULL uint32_t lindenscoop_full_year_raw(uint32_t yy, uint32_t *y
    4: there is no such date (a yy above 99, a month that is none, a day that the month does not have); *days is 0. */
 LINDENSCOOP_NOT_NULL uint32_t lindenscoop_days_since_1980_raw(uint32_t yy, uint32_t month, uint32_t day, uint32_t *days);
 
-/* Adds the second that a record tells to a table of runs, of which the first `used` rows are in use. It joins the newest run, row
-   used - 1, if it is the next of that run's last one: it becomes the last one, and the count grows by one. 59 is followed by 60 of
-   its minute or by second 0 of the next minute, 60 by second 0 of the next minute, and nothing follows the last minute of 2079. Any
-   other second, a repeat and one before included, becomes row `used`, as a run of its own, and the number in use grows by one.
-   Tested in this order:
-   21: rows_length is not 64, used is above 64, or the newest row has a last second that the calendar does not have or a count above
-   4000000000. 14: the record has no full date, or is bad, numbers that are no record included. 15: the second joins no run, and 64
-   rows are in use. A refusal changes no row, and the number in use is then the one that was handed in. No other row than the newest
-   is looked at, and none but the one that is written is changed. */
-LINDENSCOOP_NOT_NULL lindenscoop_added lindenscoop_add_second_numbers(lindenscoop_run *rows, size_t rows_length, uint32_t used, lindenscoop_record record);
+/* Adds the second that a record of one rack tells to a table of runs, of which the first `used` rows are in use. It joins the newest
+   run of this rack, if it is the next of that run's last one: it becomes the last one, and the count grows by one. 59 is followed by
+   60 of its minute or by second 0 of the next minute, 60 by second 0 of the next minute, and nothing follows the last minute of 2079.
+   Any other second, a repeat and one before included, becomes row `used`, as a run of its own with its rack, and the number in use
+   grows by one. Tested in this order:
+   16: rack is not 0 or 1. 21: rows_length is not 64, used is above 64, a row in use has another rack than 0 or 1, more than 32 rows in
+   use are of one rack, or the newest row of either rack has a last second that the calendar does not have or a count above 4000000000.
+   14: the record has no full date, or is bad, numbers that are no record included. 15: the second joins no run, and 32 rows in use are
+   of this rack. A refusal changes no row, and the number in use is then the one that was handed in. Of the rows in use the racks are
+   looked at, and of each rack's newest one the run; the rows behind them are not, and none but the one that is written is changed. */
+LINDENSCOOP_NOT_NULL lindenscoop_added lindenscoop_add_rack_second_numbers(lindenscoop_row *rows, size_t rows_length, uint32_t used, uint32_t rack, lindenscoop_record record);
 #undef LINDENSCOOP_NOT_NULL
 
 #ifdef __cplusplus
@@ -406,19 +423,33 @@ static inline uint32_t lindenscoop_days_since_1980(uint32_t year, uint32_t month
     return lindenscoop_days_since_1980_raw(lindenscoop_two_digits(year), month, day, days);
 }
 
-/* Makes a table of runs empty: before its first use, and when its rows were taken out. */
+/* Makes a table of runs empty, for both racks: before its first use, and when all its rows were taken out. */
 static inline void lindenscoop_runs_clear(lindenscoop_runs *runs)
 {
     runs->used = 0;
 }
 
-/* Adds the second that a record tells to a table. LINDENSCOOP_OK: the second joined the newest run where runs->used is as before, and
-   opened a row where it is one more. LINDENSCOOP_NO_SECOND: the record tells none. LINDENSCOOP_NO_ROW: it needs a row and all are in
-   use; take the rows out, clear the table and add the record again. Since it joins no run, the runs taken out one table after the
-   other are those of a table without an end. A refusal changes nothing. */
-static inline uint32_t lindenscoop_add_second(lindenscoop_runs *runs, const lindenscoop_record *record)
+/* Leaves a rack no row in use, when its rows were taken out. Those of the other rack stay in their order, so that none of its runs ends
+   by this. A number in use above 64 is none that a table has: nothing is changed then. */
+static inline void lindenscoop_runs_clear_rack(lindenscoop_runs *runs, uint32_t rack)
 {
-    lindenscoop_added added = lindenscoop_add_second_numbers(runs->rows, LINDENSCOOP_ROWS, runs->used, *record);
+    uint32_t kept = 0;
+    if (runs->used > LINDENSCOOP_ROWS)
+        return;
+    for (uint32_t row = 0; row < runs->used; row++)
+        if (runs->rows[row].rack != rack)
+            runs->rows[kept++] = runs->rows[row];
+    runs->used = kept;
+}
+
+/* Adds the second that a record of one rack, 0 or 1, tells to a table. LINDENSCOOP_OK: the second joined the newest run of its rack where
+   runs->used is as before, and opened a row where it is one more. LINDENSCOOP_NO_RACK: there is no such rack. LINDENSCOOP_NO_SECOND: the
+   record tells none. LINDENSCOOP_NO_ROW: it needs a row and its rack has 32; take the rows of this rack out, call
+   lindenscoop_runs_clear_rack and add the record again. Since it joins no run, the runs of a rack taken out one after the other are
+   those of a table without an end. A refusal changes nothing. */
+static inline uint32_t lindenscoop_add_second(lindenscoop_runs *runs, uint32_t rack, const lindenscoop_record *record)
+{
+    lindenscoop_added added = lindenscoop_add_rack_second_numbers(runs->rows, LINDENSCOOP_ROWS, runs->used, rack, *record);
     runs->used = added.used;
     return added.answer;
 }
@@ -468,9 +499,11 @@ static inline const char *lindenscoop_message(uint32_t answer)
     case LINDENSCOOP_NO_SECOND:
         return "the record has no full date, or is bad, so that it tells no second";
     case LINDENSCOOP_NO_ROW:
-        return "a row is needed and all 64 are in use";
+        return "a row is needed and this rack has 32 in use";
+    case LINDENSCOOP_NO_RACK:
+        return "there is no rack of this number: the racks are 0 and 1";
     case LINDENSCOOP_BAD_TABLE:
-        return "a table that no calls made: not of 64 rows, a number in use over 64, or a newest row with an impossible last second or a count over 4,000,000,000";
+        return "a table that no calls made: not of 64 rows, a number in use over 64, a row in use of a rack that is not 0 or 1, over 32 rows of one rack, or a rack's newest row with an impossible last second or a count over 4,000,000,000";
     case LINDENSCOOP_HEARD:
         return "a record was handed out";
     default:

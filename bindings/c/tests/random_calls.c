@@ -434,7 +434,7 @@ static void call_full_year(void)
 
 /* ---- Runs of seconds, with a plain model of them ---- */
 
-enum { ROWS = LINDENSCOOP_ROWS, MOST_ROWS = 78 /* that have room */ };
+enum { ROWS = LINDENSCOOP_ROWS, RACKS = LINDENSCOOP_RACKS, RACK_ROWS = LINDENSCOOP_RACK_ROWS, MOST_ROWS = 73 /* that have room */ };
 
 static uint32_t month_days(uint32_t yy, uint32_t month)
 {
@@ -492,22 +492,56 @@ static int told_second(const lindenscoop_record *r, lindenscoop_second *s)
     return r->date == LINDENSCOOP_FULL_DATE && lindenscoop_write(LINDENSCOOP_BLOCK, r, out, sizeof out, &written) == LINDENSCOOP_OK;
 }
 
+static uint32_t rows_of(const lindenscoop_row *rows, uint32_t used, uint32_t rack)
+{
+    uint32_t count = 0;
+    for (uint32_t row = 0; row < used; row++)
+        count += rows[row].rack == rack;
+    return count;
+}
+
+/* The newest row of a rack; null where it has none in use */
+static lindenscoop_row *newest_of(lindenscoop_row *rows, uint32_t used, uint32_t rack)
+{
+    while (used-- > 0)
+        if (rows[used].rack == rack)
+            return &rows[used];
+    return NULL;
+}
+
+static int is_table(lindenscoop_row *rows, size_t length, uint32_t used)
+{
+    if (length != ROWS || used > ROWS || rows_of(rows, used, 0) + rows_of(rows, used, 1) != used)
+        return 0;
+    for (uint32_t rack = 0; rack < RACKS; rack++) {
+        const lindenscoop_row *newest = newest_of(rows, used, rack);
+        if (newest && (rows_of(rows, used, rack) > RACK_ROWS || !is_second(newest->run.last) || newest->run.count > 4000000000u))
+            return 0;
+    }
+    return 1;
+}
+
 /* What is to be answered, with the rows changed as they are to be */
-static lindenscoop_added model_add(lindenscoop_run *rows, size_t length, uint32_t used, const lindenscoop_record *r)
+static lindenscoop_added model_add(lindenscoop_row *rows, size_t length, uint32_t used, uint32_t rack, const lindenscoop_record *r)
 {
     lindenscoop_added added = {LINDENSCOOP_OK, used};
+    lindenscoop_row *newest;
     lindenscoop_second s;
-    lindenscoop_run *newest = used > 0 && used <= ROWS ? &rows[used - 1] : NULL;
-    if (length != ROWS || used > ROWS || (newest && (!is_second(newest->last) || newest->count > 4000000000u)))
+    if (rack >= RACKS)
+        added.answer = LINDENSCOOP_NO_RACK;
+    else if (!is_table(rows, length, used))
         added.answer = LINDENSCOOP_BAD_TABLE;
     else if (!told_second(r, &s))
         added.answer = LINDENSCOOP_NO_SECOND;
-    else if (newest && is_next(newest->last, s))
-        newest->last = s, newest->count++;
-    else if (used == ROWS)
+    else if ((newest = newest_of(rows, used, rack)) != NULL && is_next(newest->run.last, s))
+        newest->run.last = s, newest->run.count++;
+    else if (rows_of(rows, used, rack) == RACK_ROWS)
         added.answer = LINDENSCOOP_NO_ROW;
-    else
-        rows[used].first = s, rows[used].last = s, rows[used].count = 1, added.used++;
+    else {
+        lindenscoop_row *behind = &rows[added.used++];
+        behind->rack = rack;
+        behind->run.first = s, behind->run.last = s, behind->run.count = 1;
+    }
     return added;
 }
 
@@ -574,69 +608,94 @@ static void random_telling(lindenscoop_record *r, lindenscoop_second s)
     r->hour = s.hour, r->minute = s.minute, r->second = s.second;
 }
 
+/* The racks of rows: 32 of each in any order, or one after the other; at times one row of the other or of none */
+static void random_racks(lindenscoop_row *rows)
+{
+    const uint32_t first = draw(RACKS), apart = draw(2);
+    for (uint32_t i = 0; i < MOST_ROWS; i++)
+        rows[i].rack = i < RACK_ROWS ? first : 1 - first;
+    for (uint32_t i = ROWS - 1; !apart && i > 0; i--) {
+        const uint32_t other = draw(i + 1), rack = rows[i].rack;
+        rows[i].rack = rows[other].rack;
+        rows[other].rack = rack;
+    }
+    if (!draw(10))
+        rows[draw(ROWS)].rack = draw(2) ? draw(3) : 0xffffffffu - draw(2);
+}
+
 /* Any table: every row afterwards, and the rows around it, are those of the model */
 static void call_add_second(void)
 {
-    lindenscoop_run before[MOST_ROWS], expected[MOST_ROWS];
+    lindenscoop_row before[MOST_ROWS], expected[MOST_ROWS], *newest;
     lindenscoop_record r;
     size_t length = sometimes(ROWS, draw(MOST_ROWS + 1));
     uint32_t used = draw(3) ? draw(ROWS + 1) : draw(3) ? ROWS : draw(2) ? ROWS + draw(3) : 0xffffffffu - draw(2) * 0x7fffffffu;
+    uint32_t rack = sometimes(draw(RACKS), draw(2) ? draw(4) : 0xffffffffu - draw(2));
+    random_racks(before);
     for (int i = 0; i < MOST_ROWS; i++) {
-        before[i].first = random_second();
-        before[i].last = random_second();
-        before[i].count = sometimes(draw(5000), draw(2) ? 4000000000u + draw(2) : 0xffffffffu);
+        before[i].run.first = random_second();
+        before[i].run.last = random_second();
+        before[i].run.count = sometimes(draw(5000), draw(2) ? 4000000000u + draw(2) : 0xffffffffu);
     }
-    random_telling(&r, used > 0 && used <= MOST_ROWS ? step(before[used - 1].last) : random_second());
+    newest = used <= MOST_ROWS ? newest_of(before, used, sometimes(rack, draw(RACKS))) : NULL;
+    random_telling(&r, newest ? step(newest->run.last) : random_second());
     memcpy(expected, before, sizeof expected);
-    const lindenscoop_added wanted = model_add(expected, length, used, &r);
-    lindenscoop_run *rows = lend(0, before, length * sizeof *rows);
-    const lindenscoop_added added = lindenscoop_add_second_numbers(rows, length, used, r);
+    const lindenscoop_added wanted = model_add(expected, length, used, rack, &r);
+    lindenscoop_row *rows = lend(0, before, length * sizeof *rows);
+    const lindenscoop_added added = lindenscoop_add_rack_second_numbers(rows, length, used, rack, r);
     CHECK(seen(added.answer) == wanted.answer && added.used == wanted.used);
     CHECK(memcmp(rows, expected, length * sizeof *rows) == 0);
     joined += added.answer == LINDENSCOOP_OK && added.used == used;
     opened += added.answer == LINDENSCOOP_OK && added.used != used;
 }
 
-/* The rows of a table are the runs of these seconds: each row is walked over from its first one to its last */
-static void check_afresh(const lindenscoop_runs *runs, const lindenscoop_second *seconds, size_t length)
+/* The rows of a rack are the runs of these seconds: each row is walked over from its first one to its last */
+static void check_afresh(const lindenscoop_runs *runs, uint32_t rack, const lindenscoop_second *seconds, size_t length)
 {
     size_t at = 0;
     for (uint32_t row = 0; row < runs->used; row++) {
-        size_t head = at++;
+        const lindenscoop_run *run = &runs->rows[row].run;
+        size_t head = at;
+        if (runs->rows[row].rack != rack)
+            continue;
         CHECK(head < length);
-        while (at < length && is_next(seconds[at - 1], seconds[at]))
+        for (at++; at < length && is_next(seconds[at - 1], seconds[at]);)
             at++;
-        CHECK(same_second(runs->rows[row].first, seconds[head]) && same_second(runs->rows[row].last, seconds[at - 1]));
-        CHECK(runs->rows[row].count == at - head);
+        CHECK(same_second(run->first, seconds[head]) && same_second(run->last, seconds[at - 1]));
+        CHECK(run->count == at - head);
     }
     CHECK(at == length);
 }
 
-/* A table that only these calls write, from an empty one on: its rows are the runs, worked out afresh, of the records not refused */
+/* A table that only these calls write, from an empty one on: the rows of each rack are the runs, worked out afresh, of its records not
+   refused, and stand in the order in which they were opened */
 static void call_runs(void)
 {
     enum { MOST = 300 };
-    lindenscoop_second kept[MOST], s = random_second(), told;
+    lindenscoop_second kept[RACKS][MOST], s[RACKS] = {random_second(), random_second()}, told;
     lindenscoop_runs runs;
     lindenscoop_record r;
-    size_t length = 0, most = draw(MOST + 1);
-    uint32_t steady = 1 + draw(20);
+    size_t length[RACKS] = {0, 0}, most = draw(MOST + 1);
+    uint32_t steady = 1 + draw(20), often = 1 + draw(5), order[ROWS];
     memset(&runs, FILLING, sizeof runs);
     lindenscoop_runs_clear(&runs);
     for (size_t i = 0; i < most; i++) {
-        uint32_t used = runs.used;
-        random_telling(&r, s);
+        const uint32_t rack = !draw(often), used = runs.used, full = rows_of(runs.rows, used, rack) == RACK_ROWS;
+        random_telling(&r, s[rack]);
         const int tells = told_second(&r, &told);
-        const uint32_t answer = seen(lindenscoop_add_second(&runs, &r));
-        CHECK(tells ? answer == LINDENSCOOP_OK || (answer == LINDENSCOOP_NO_ROW && used == ROWS) : answer == LINDENSCOOP_NO_SECOND);
+        const uint32_t answer = seen(lindenscoop_add_second(&runs, rack, &r));
+        CHECK(tells ? answer == LINDENSCOOP_OK || (answer == LINDENSCOOP_NO_ROW && full) : answer == LINDENSCOOP_NO_SECOND);
         CHECK(runs.used == used || (answer == LINDENSCOOP_OK && runs.used == used + 1));
+        if (runs.used > used)
+            order[used] = rack;
         if (answer == LINDENSCOOP_OK)
-            kept[length++] = told;
-        s = !is_second(s) ? random_second() : draw(steady) ? go_on(s) : step(s);
+            kept[rack][length[rack]++] = told;
+        s[rack] = !is_second(s[rack]) ? random_second() : draw(steady) ? go_on(s[rack]) : step(s[rack]);
     }
-    check_afresh(&runs, kept, length);
-    for (uint32_t row = runs.used; row < ROWS; row++)
-        CHECK(is_filled(&runs.rows[row], sizeof runs.rows[row]));
+    for (uint32_t rack = 0; rack < RACKS; rack++)
+        check_afresh(&runs, rack, kept[rack], length[rack]);
+    for (uint32_t row = 0; row < ROWS; row++)
+        CHECK(row < runs.used ? runs.rows[row].rack == order[row] : is_filled(&runs.rows[row], sizeof runs.rows[row]));
 }
 
 /* Null with length 0, where the header allows it */
@@ -667,7 +726,7 @@ int main(int argc, char **argv)
         all[draw(sizeof all / sizeof *all)]();
     }
     if (most >= 20000)
-        for (int i = 0; i <= LINDENSCOOP_NO_ROW; i++)
+        for (int i = 0; i <= LINDENSCOOP_NO_RACK; i++)
             CHECK(answers[i] > 0);
     CHECK(most < 20000 || (answers[LINDENSCOOP_BAD_TABLE] > 0 && joined > 0 && opened > 0));
     for (size_t i = 0; most >= 20000 && i < sizeof serial_forms / sizeof *serial_forms; i++)

@@ -21,8 +21,8 @@ static uint8_t input[4096], out[4096], state[LINDENSCOOP_LISTENER_BYTES];
 static size_t length, number;
 static uint32_t numbers[LINDENSCOOP_RECORD_NUMBERS], year, days;
 static lindenscoop_record record;
-static lindenscoop_run rows[LINDENSCOOP_ROWS];
-static uint32_t used;
+static lindenscoop_row rows[LINDENSCOOP_ROWS];
+static uint32_t used, rack;
 
 static void call_nothing(void) {}
 static void call_read(void) { lindenscoop_read_numbers(form, input, length, numbers, 29); }
@@ -34,7 +34,7 @@ static void call_feed_all(void) { lindenscoop_feed_all_numbers(state, sizeof sta
 static void call_mark(void) { lindenscoop_mark_raw(form, input, length, out, sizeof out); }
 static void call_full_year(void) { lindenscoop_full_year_raw(numbers[4], &year); }
 static void call_days_since_1980(void) { lindenscoop_days_since_1980_raw(numbers[4], numbers[5], numbers[6], &days); }
-static void call_add_second(void) { used = lindenscoop_add_second_numbers(rows, LINDENSCOOP_ROWS, used, record).used; }
+static void call_add_second(void) { used = lindenscoop_add_rack_second_numbers(rows, LINDENSCOOP_ROWS, used, rack, record).used; }
 
 static struct way {
     const char *name;
@@ -42,7 +42,7 @@ static struct way {
     size_t most;
 } ways[] = {{"nothing", call_nothing, 0}, {"read", call_read, 0},   {"write", call_write, 0},       {"search", call_search, 0},
             {"start", call_start, 0},     {"feed", call_feed, 0},   {"feed_all", call_feed_all, 0}, {"mark", call_mark, 0},
-            {"full_year", call_full_year, 0}, {"days_since_1980", call_days_since_1980, 0}, {"add_second", call_add_second, 0}};
+            {"full_year", call_full_year, 0}, {"days_since_1980", call_days_since_1980, 0}, {"add_rack_second", call_add_second, 0}};
 enum { NOTHING, READ, WRITE, SEARCH, START, FEED, FEED_ALL, MARK, FULL_YEAR, DAYS_SINCE_1980, ADD_SECOND, WAYS };
 
 static void run(int which)
@@ -62,21 +62,23 @@ static void run(int which)
         way->most = sizeof room - untouched;
 }
 
-/* Opens a row, is a repeat, and joins a run where the second has one before it in its day */
+/* Opens a row, is a repeat, and joins a run where the second has one before it in its day; for one rack, then for the other behind it */
 static void run_add_second(void)
 {
-    lindenscoop_second *last = &rows[1].last;
     memcpy(&record, numbers, sizeof record);
     used = 0;
-    run(ADD_SECOND);
-    run(ADD_SECOND);
-    if (last->second > 0)
-        last->second--;
-    else if (last->minute > 0)
-        last->minute--, last->second = 59;
-    else
-        last->hour--, last->minute = last->second = 59;
-    run(ADD_SECOND);
+    for (rack = 0; rack < LINDENSCOOP_RACKS; rack++) {
+        lindenscoop_second *last = &rows[2 * rack + 1].run.last;
+        run(ADD_SECOND);
+        run(ADD_SECOND);
+        if (last->second > 0)
+            last->second--;
+        else if (last->minute > 0)
+            last->minute--, last->second = 59;
+        else
+            last->hour--, last->minute = last->second = 59;
+        run(ADD_SECOND);
+    }
 }
 
 static void run_all(void)

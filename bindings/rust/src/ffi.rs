@@ -3,7 +3,7 @@
 
 use std::mem::size_of;
 
-use crate::runs::{Run, Second};
+use crate::runs::{Row, Run, Second};
 
 /// How many numbers a record has; lindenscoop.h names them in order.
 pub const RECORD_NUMBERS: usize = 29;
@@ -29,7 +29,8 @@ struct AddedNumbers {
 }
 
 /// The library counts the rows of a table in these bytes.
-const _: () = assert!(size_of::<Second>() == 24 && size_of::<Run>() == 52);
+const _: () =
+    assert!(size_of::<Second>() == 24 && size_of::<Run>() == 52 && size_of::<Row>() == 56);
 
 extern "C" {
     fn lindenscoop_read_numbers(
@@ -82,10 +83,11 @@ extern "C" {
     ) -> u32;
     fn lindenscoop_full_year_raw(yy: u32, year: *mut u32) -> u32;
     fn lindenscoop_days_since_1980_raw(yy: u32, month: u32, day: u32, days: *mut u32) -> u32;
-    fn lindenscoop_add_second_numbers(
-        rows: *mut Run,
+    fn lindenscoop_add_rack_second_numbers(
+        rows: *mut Row,
         rows_length: usize,
         used: u32,
+        rack: u32,
         record: RecordNumbers,
     ) -> AddedNumbers;
 }
@@ -194,9 +196,10 @@ pub fn days_since_1980(yy: u32, month: u32, day: u32) -> (u32, u32) {
 }
 
 /// The answer, and the number of rows in use afterwards.
-pub fn add_second(rows: &mut [Run], used: u32, numbers: FlatRecord) -> (u32, u32) {
+pub fn add_second(rows: &mut [Row], used: u32, rack: u32, numbers: FlatRecord) -> (u32, u32) {
     let record = RecordNumbers { numbers };
-    let added =
-        unsafe { lindenscoop_add_second_numbers(rows.as_mut_ptr(), rows.len(), used, record) };
+    let added = unsafe {
+        lindenscoop_add_rack_second_numbers(rows.as_mut_ptr(), rows.len(), used, rack, record)
+    };
     (added.answer, added.used)
 }

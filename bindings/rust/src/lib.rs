@@ -27,5 +27,5 @@ pub use form::{Form, ParseFormError};
 pub use listener::{Listener, State};
 pub use record::{Date, Fraction, Position, Record};
 pub use refusal::Refusal;
-pub use runs::{add_second, Added, Run, Runs, Second};
+pub use runs::{add_second, Added, Row, Run, Runs, Second};
 pub use telegrams::{heard, mark, telegrams, Heard, Telegrams};

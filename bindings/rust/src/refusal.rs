@@ -1,4 +1,4 @@
-//! Why an input, a record, a buffer, a state or a table is refused. The meanings are those of README.md, "What a refusal means".
+//! Why an input, a record, a rack, a buffer, a state or a table is refused. The meanings are those of README.md, "What a refusal means".
 
 use std::error::Error;
 use std::fmt;
@@ -52,8 +52,9 @@ refusals! {
     NotFound = 12, "no valid string lies wholly at or after the start of the search";
     Overlap = 13, "a valid string ends too close behind the last one; a listener that was started never gives it";
     NoSecond = 14, "the record has no full date, or is bad, so that it tells no second";
-    NoRow = 15, "a row is needed and all 64 are in use";
-    BadTable = 21, "a table that no calls made: not of 64 rows, a number in use over 64, or a newest row with an impossible last second or a count over 4,000,000,000";
+    NoRow = 15, "a row is needed and this rack has 32 in use";
+    NoRack = 16, "there is no rack of this number: the racks are 0 and 1";
+    BadTable = 21, "a table that no calls made: not of 64 rows, a number in use over 64, a row in use of a rack that is not 0 or 1, over 32 rows of one rack, or a rack's newest row with an impossible last second or a count over 4,000,000,000";
 }
 
 impl Refusal {
@@ -88,8 +89,8 @@ impl fmt::Display for Refusal {
 
 impl Error for Refusal {}
 
-/// For functions that return `io::Result`: `InvalidInput` where a form, a record or a buffer of the caller's is refused, a table without a
-/// row left included, `InvalidData` where bytes that were read, a state or a table are. The refusal is kept inside.
+/// For functions that return `io::Result`: `InvalidInput` where a form, a record, a rack or a buffer of the caller's is refused, a table
+/// without a row left included, `InvalidData` where bytes that were read, a state or a table are. The refusal is kept inside.
 ///
 /// ```
 /// use lindenscoop::{read, Form, Record, Refusal};
@@ -110,7 +111,8 @@ impl From<Refusal> for io::Error {
             | Refusal::NotExpressible
             | Refusal::ShortBuffer
             | Refusal::NoSecond
-            | Refusal::NoRow => io::ErrorKind::InvalidInput,
+            | Refusal::NoRow
+            | Refusal::NoRack => io::ErrorKind::InvalidInput,
             Refusal::WrongLength
             | Refusal::WrongByte
             | Refusal::OutOfRange

@@ -14,8 +14,8 @@ fn a_refusal_is_an_error_with_its_number_and_meaning() {
         assert_eq!(error.to_string(), text);
         assert_eq!(error.downcast::<Refusal>().unwrap(), *refusal);
     }
-    assert_eq!(Refusal::ALL.len(), 16);
-    let unused = (0..=u32::from(u16::MAX)).filter(|number| !matches!(number, 1..=15 | 21));
+    assert_eq!(Refusal::ALL.len(), 17);
+    let unused = (0..=u32::from(u16::MAX)).filter(|number| !matches!(number, 1..=16 | 21));
     for number in unused {
         assert_eq!(Refusal::from_number(number), None);
     }
@@ -25,7 +25,7 @@ fn a_refusal_is_an_error_with_its_number_and_meaning() {
 fn the_kind_of_an_io_error_says_whose_fault_it_is() {
     for refusal in Refusal::ALL {
         let expected = match refusal.number() {
-            1 | 7 | 8 | 9 | 10 | 14 | 15 => ErrorKind::InvalidInput,
+            1 | 7 | 8 | 9 | 10 | 14 | 15 | 16 => ErrorKind::InvalidInput,
             _ => ErrorKind::InvalidData,
         };
         assert_eq!(io::Error::from(*refusal).kind(), expected, "{refusal:?}");

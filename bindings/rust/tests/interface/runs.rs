@@ -1,4 +1,4 @@
-use lindenscoop::{add_second, read, Added, Date, Form, Record, Refusal, Run, Runs, Second};
+use lindenscoop::{add_second, read, Added, Date, Form, Record, Refusal, Row, Run, Runs, Second};
 
 /// A second told as `24-02-29 23:59:60`, of any two-digit numbers.
 pub fn second(told: &str) -> Second {
@@ -32,41 +32,83 @@ pub fn run(first: &str, last: &str, count: u32) -> Run {
     Run { first, last, count }
 }
 
-/// Rows that differ from each other, of which each may be the newest. All that is wrong with a row but the newest is of no matter.
-pub fn filled() -> [Run; Runs::ROWS] {
-    let mut rows = [run("24-02-29 12:00:00", "24-02-29 12:00:07", 8); Runs::ROWS];
-    for (place, row) in (0..).zip(rows.iter_mut()) {
-        (row.first.minute, row.last.minute, row.count) = (place % 60, place % 60, 8 + place);
-    }
-    rows
-}
-
-/// Adds to a table and sees that a refusal changes nothing.
-pub fn refused(rows: &mut [Run], used: u32, record: &Record, refusal: Refusal) {
-    let before = rows.to_vec();
-    assert_eq!(add_second(rows, used, record), (used, Err(refusal)));
-    assert_eq!(rows, before);
-}
-
-/// What is told of one second behind another one, with the rows looked at.
-fn behind(before: Second, after: Second) -> Added {
-    let mut runs = Runs::new();
-    let alone = |second| Run {
+pub fn alone(rack: u32, second: Second) -> Row {
+    let run = Run {
         first: second,
         last: second,
         count: 1,
     };
-    assert_eq!(runs.add(&record(before)), Ok(Added::Opened));
-    assert_eq!(runs.rows(), [alone(before)]);
-    let added = runs.add(&record(after)).unwrap();
+    Row { rack, run }
+}
+
+/// In which order the racks opened their rows, 32 each: by turns, one after the other, or three at a time.
+pub const LAYOUTS: [fn(u32) -> u32; 4] = [
+    |place| place % 2,
+    |place| place / 32,
+    |place| 1 - place / 32,
+    |place| (place + 1) / 3 % 2,
+];
+
+/// Rows that differ from each other, of which each may be the newest.
+pub fn filled(layout: fn(u32) -> u32) -> [Row; Runs::ROWS] {
+    let run = run("24-02-29 12:00:00", "24-02-29 12:00:07", 8);
+    let mut rows = [Row { rack: 0, run }; Runs::ROWS];
+    for (place, row) in (0..).zip(rows.iter_mut()) {
+        (row.rack, row.run.count) = (layout(place), 8 + place);
+        (row.run.first.minute, row.run.last.minute) = (place % 60, place % 60);
+    }
+    rows
+}
+
+/// Where the newest row of a rack stands, if it has one in use.
+pub fn newest(rows: &[Row], used: u32, rack: u32) -> Option<usize> {
+    rows[..used as usize]
+        .iter()
+        .rposition(|row| row.rack == rack)
+}
+
+/// How many rows in use are of a rack.
+pub fn rows_of(rows: &[Row], used: u32, rack: u32) -> usize {
+    let in_use = &rows[..used as usize];
+    in_use.iter().filter(|row| row.rack == rack).count()
+}
+
+/// Adds to a table and sees that a refusal changes nothing.
+pub fn refused(rows: &mut [Row], used: u32, rack: u32, record: &Record, refusal: Refusal) {
+    let before = rows.to_vec();
+    let told = add_second(rows, used, rack, record);
+    assert_eq!(told, (used, Err(refusal)), "rack {rack}");
+    assert_eq!(rows, before);
+}
+
+/// What is told of one second behind another one of the same rack, with the rows looked at. The other rack heard one in between.
+fn behind_in(rack: u32, between: Option<Second>, before: Second, after: Second) -> Added {
+    let mut runs = Runs::new();
+    let mut expected = vec![alone(rack, before)];
+    assert_eq!(runs.add(rack, &record(before)), Ok(Added::Opened));
+    if let Some(second) = between {
+        expected.push(alone(1 - rack, second));
+        assert_eq!(runs.add(1 - rack, &record(second)), Ok(Added::Opened));
+    }
+    assert_eq!(runs.rows(), expected);
+    let added = runs.add(rack, &record(after)).unwrap();
     match added {
-        Added::Opened => assert_eq!(runs.rows(), [alone(before), alone(after)]),
-        Added::Joined => {
-            let (first, last, count) = (before, after, 2);
-            assert_eq!(runs.rows(), [Run { first, last, count }]);
+        Added::Opened => expected.push(alone(rack, after)),
+        Added::Joined => (expected[0].run.last, expected[0].run.count) = (after, 2),
+    }
+    assert_eq!(runs.rows(), expected);
+    added
+}
+
+/// The same for either rack, whichever of the two seconds the other one heard in between, or none.
+fn behind(before: Second, after: Second) -> Added {
+    let told = behind_in(0, None, before, after);
+    for between in [None, Some(before), Some(after)] {
+        for rack in 0..Runs::RACKS {
+            assert_eq!(behind_in(rack, between, before, after), told);
         }
     }
-    added
+    told
 }
 
 #[test]
@@ -140,46 +182,52 @@ fn days_follow_each_other() {
                 minute,
                 second,
             });
-            if first.days_since_1980().is_none() {
-                assert_eq!(runs.add(&record(first)), Err(Refusal::NoSecond));
-                continue;
+            for rack in 0..Runs::RACKS {
+                if first.days_since_1980().is_none() {
+                    assert_eq!(runs.add(rack, &record(first)), Err(Refusal::NoSecond));
+                    continue;
+                }
+                days += 1;
+                let first_told = runs.add(rack, &record(first));
+                let expected = [Added::Joined, Added::Opened][usize::from(days <= 2)];
+                assert_eq!(first_told, Ok(expected), "{first:?}");
+                runs.take(rack);
+                assert_eq!(runs.add(rack, &record(last)), Ok(Added::Opened));
             }
-            days += 1;
-            let first_told = runs.add(&record(first));
-            let expected = [Added::Joined, Added::Opened][usize::from(days == 1)];
-            assert_eq!(first_told, Ok(expected), "{first:?}");
-            runs.take();
-            assert_eq!(runs.add(&record(last)), Ok(Added::Opened));
         }
     }
-    assert_eq!(days, 36_525);
-    assert_eq!(runs.add(&told("80-01-01 00:00:00")), Ok(Added::Opened));
+    assert_eq!(days, 2 * 36_525);
+    for rack in 0..Runs::RACKS {
+        let told = runs.add(rack, &told("80-01-01 00:00:00"));
+        assert_eq!(told, Ok(Added::Opened));
+    }
 }
 
-/// Whichever number is in use, one row is changed: the newest, or the one behind it.
+/// Whichever number is in use, one row is changed: the newest of the rack, or the one behind all.
 #[test]
 fn one_row_is_changed() {
-    for used in 0..=64_u32 {
-        let place = used as usize;
-        let (mut joined, mut opened) = (filled(), filled());
-        let mut expected = filled();
-        if used > 0 {
-            let newest = &mut expected[place - 1];
-            (newest.last.second, newest.count) = (8, newest.count + 1);
-            let told = add_second(&mut joined, used, &record(newest.last));
-            assert_eq!(told, (used, Ok(Added::Joined)));
-            assert_eq!(joined, expected);
+    let other = told("91-06-30 23:59:60");
+    for layout in LAYOUTS {
+        for (used, rack) in (0..=64_u32).flat_map(|used| [(used, 0), (used, 1)]) {
+            let (mut joined, mut opened) = (filled(layout), filled(layout));
+            let mut expected = filled(layout);
+            if let Some(place) = newest(&expected, used, rack) {
+                let run = &mut expected[place].run;
+                (run.last.second, run.count) = (8, run.count + 1);
+                let told = add_second(&mut joined, used, rack, &record(run.last));
+                assert_eq!(told, (used, Ok(Added::Joined)));
+                assert_eq!(joined, expected);
+            }
+            if rows_of(&opened, used, rack) == Runs::RACK_ROWS {
+                refused(&mut opened, used, rack, &other, Refusal::NoRow);
+                continue;
+            }
+            let mut expected = filled(layout);
+            expected[used as usize] = alone(rack, second("91-06-30 23:59:60"));
+            let told = add_second(&mut opened, used, rack, &other);
+            assert_eq!(told, (used + 1, Ok(Added::Opened)));
+            assert_eq!(opened, expected);
         }
-        let other = told("91-06-30 23:59:60");
-        if used == 64 {
-            refused(&mut opened, used, &other, Refusal::NoRow);
-            continue;
-        }
-        let mut expected = filled();
-        expected[place] = run("91-06-30 23:59:60", "91-06-30 23:59:60", 1);
-        let told = add_second(&mut opened, used, &other);
-        assert_eq!(told, (used + 1, Ok(Added::Opened)));
-        assert_eq!(opened, expected);
     }
 }
 
@@ -190,20 +238,20 @@ fn the_other_fields_are_of_no_matter() {
     let full = read(Form::BLOCK, block.as_bytes()).unwrap();
     let mut runs = Runs::new();
     let told = [
-        runs.add(&told("24-02-29 23:59:59")),
-        runs.add(&full),
-        runs.add(&told("24-03-01 00:00:00")),
+        runs.add(1, &told("24-02-29 23:59:59")),
+        runs.add(1, &full),
+        runs.add(1, &told("24-03-01 00:00:00")),
     ];
     assert_eq!(told, [Added::Opened, Added::Joined, Added::Joined].map(Ok));
-    let expected = run("24-02-29 23:59:59", "24-03-01 00:00:00", 3);
-    assert_eq!(runs.rows(), [expected]);
+    let run = run("24-02-29 23:59:59", "24-03-01 00:00:00", 3);
+    assert_eq!(runs.rows(), [Row { rack: 1, run }]);
 }
 
 /// Numbers without a pattern, the same in every run of the test.
-struct Numbers(u64);
+pub struct Numbers(pub u64);
 
 impl Numbers {
-    fn below(&mut self, end: u32) -> u32 {
+    pub fn below(&mut self, end: u32) -> u32 {
         self.0 = self
             .0
             .wrapping_mul(6_364_136_223_846_793_005)
@@ -228,7 +276,7 @@ fn is_next(before: Second, after: Second) -> bool {
 }
 
 /// The runs of seconds, worked out afresh: a run ends wherever the second behind it is not the next one.
-fn afresh(seconds: &[Second]) -> Vec<Run> {
+pub fn afresh(seconds: &[Second]) -> Vec<Run> {
     seconds
         .chunk_by(|before, after| is_next(*before, *after))
         .map(|run| Run {
@@ -240,7 +288,7 @@ fn afresh(seconds: &[Second]) -> Vec<Run> {
 }
 
 /// Seconds that mostly go on, around the ends of minutes, days, months and years.
-fn wandering(numbers: &mut Numbers, length: usize) -> Vec<Second> {
+pub fn wandering(numbers: &mut Numbers, length: usize) -> Vec<Second> {
     let places = [
         "24-02-28", "24-02-29", "24-03-01", "99-12-31", "00-01-01", "79-12-31",
     ];
@@ -263,53 +311,6 @@ fn wandering(numbers: &mut Numbers, length: usize) -> Vec<Second> {
         }
     }
     seconds
-}
-
-/// The rows that are taken one after the other are the runs worked out afresh, refused records left out.
-#[test]
-fn the_rows_are_the_runs_worked_out_afresh() {
-    let mut numbers = Numbers(206);
-    let mut taken = 0;
-    for _ in 0..200 {
-        let seconds = wandering(&mut numbers, 2_000);
-        let (mut runs, mut heard) = (Runs::new(), Vec::new());
-        for (place, second) in seconds.iter().enumerate() {
-            if runs.add(&record(*second)) == Err(Refusal::NoRow) {
-                assert_eq!(runs.rows(), &afresh(&seconds[..place])[heard.len()..]);
-                heard.extend(runs.take());
-                assert_eq!(runs, Runs::new());
-                assert_eq!(runs.add(&record(*second)), Ok(Added::Opened));
-                taken += 1;
-            }
-            if numbers.below(4) == 0 {
-                assert_eq!(runs.add(&Record::default()), Err(Refusal::NoSecond));
-            }
-        }
-        heard.extend(runs.take());
-        assert_eq!(heard, afresh(&seconds));
-    }
-    assert!(taken > 50);
-}
-
-#[test]
-fn a_full_table_is_joined_and_opens_none() {
-    let mut runs = Runs::default();
-    for minute in 0..64 {
-        let second = Second {
-            minute: minute % 60,
-            ..second("24-02-29 12:00:07")
-        };
-        assert_eq!(runs.add(&record(second)), Ok(Added::Opened));
-    }
-    let full = runs.clone();
-    assert_eq!(runs.add(&told("24-02-29 12:03:07")), Err(Refusal::NoRow));
-    assert_eq!(runs, full);
-    assert_eq!(runs.add(&told("24-02-29 12:03:08")), Ok(Added::Joined));
-    assert_eq!(runs.rows().len(), Runs::ROWS);
-    assert_eq!(runs.rows()[63].count, 2);
-    assert_eq!(runs.rows()[..63], full.rows()[..63]);
-    assert_eq!(runs.take().len(), 64);
-    assert_eq!(runs, Runs::new());
 }
 
 #[test]
