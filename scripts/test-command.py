@@ -30,7 +30,7 @@ sys.dont_write_bytecode = True
 sys.path.insert(0, str(RUNS))
 
 from picture import Picture, faults
-from seconds import at, every, heard_in, listed, racal, wandering
+from seconds import at, every, heard_in, listed_of_racks, racal, wandering
 
 # Name and length of each form that can be listened for.
 FORMS = {1: ("standard", 32), 2: ("capture", 31), 3: ("erlangen", 66), 4: ("spa", 32), 5: ("racal", 16), 6: ("sysplex", 16), 7: ("computime", 24),
@@ -50,8 +50,8 @@ RMC_BLOCK = (b"date=23-12-18\ntime=22:09:52\nfraction=00\nchannel=-\nsync=yes\nf
 ERLANGEN = b"\x0201.01.24; 1; 13:00:00; +00:00; #*     ;  0.0000N   0.0000E    0m\x03"
 FRAMED = b'{"date":"2024-01-01","time":"00:00:00","sync":true,"summer":false,"offset":"%s","dsp":false,"lsp":false}'
 SECONDS = 10
-# Logs with their forms: gaps within and over minutes, with damaged strings; a leap second, a repeat and a clock set back; 150 runs, where a table has
-# 64 rows; runs days apart, over the end of 1999 and a leap day.
+# Logs with their forms: gaps within and over minutes, with damaged strings; a leap second, a repeat and a clock set back; 150 runs, where a rack has
+# 32 rows; runs days apart, over the end of 1999 and a leap day.
 STORED = {"gaps": "standard", "leap": "racal", "many": "racal", "apart": "computime"}
 # Logs that follow a rule: six hours with one second missing, at the beginning of a line of the picture, which is less than a hundredth of a percent; a
 # day and a half with one missing and ten thousand; three hours of every other second before three whole ones; one second in every ten minutes, and one
@@ -63,6 +63,19 @@ MADE = {
     "sparse": every("2024-02-27 00:00:00", 172800, 600),
     "sparser": every("2024-02-20 00:30:00", 864000, 3600),
     "alone": every("2015-06-30 23:59:40", 10) + [at("2015-06-30 23:59:60")] + every("2015-07-01 00:00:10", 40) + every("2015-07-01 00:02:30", 5),
+}
+# Two logs, a rack each: two forms on one evening, with seconds that are missing in both; a leap second that rack 0 alone heard; more runs in each than a
+# rack has rows, in minutes that both have; a day and a day that begins later; minutes of different days; a rack of which nothing was heard. A log is one
+# of the stored ones, or a list of seconds, which are sent as racal.
+EVENING = every("2024-05-04 19:59:05", 260, but=[*range(5, 13), 60, 61, 62, 200])
+PAIRS = {
+    "pair-forms": ("gaps", EVENING),
+    "pair-leap": ("leap", every("2016-12-31 23:59:45", 30, but=[14])),
+    "pair-many": ("many", every("2024-05-04 09:10:00", 1200, but=range(7, 1200, 9))),
+    "pair-day": (every("2024-05-04 00:00:00", 86400, but=[43210, *range(50000, 53000)]),
+                 every("2024-05-04 02:30:00", 86400, but=[34210, *range(42000, 44000), 70001])),
+    "pair-days": (every("2024-05-04 20:00:00", 100), every("2024-05-06 08:00:00", 70, but=[20])),
+    "pair-nothing": (EVENING, "undated"),
 }
 
 program = ""
@@ -142,7 +155,9 @@ def test_usage():
              ["runs", "--form", "1", "-", "-"], ["runs", "--form", "block", "-"], ["runs", "--form", "1", "--loud", "-"],
              ["runs", "--form", "1", "--csv", "--json", "-"], ["runs", "--form", "1", "--svg"], ["runs", "--form", "1", "--title", "a", "-"],
              ["runs", "--form", "1", "--svg", "-", "--title", " ", "-"], ["runs", "--form", "1", "--svg", "-", "--csv", "-"],
-             ["runs", "--form", "1", "--svg", "-", "--json", "-"], ["runs", "--form", "1", "--baud", "fast", "-"]]
+             ["runs", "--form", "1", "--svg", "-", "--json", "-"], ["runs", "--form", "1", "--baud", "fast", "-"],
+             ["runs", "--form", "1", "a", "b", "c"], ["runs", "--form", "1", "--form", "5", "-"], ["runs", "--form", "1", "--form", "5", "--form", "7", "a", "b"],
+             ["runs", "--form", "1", "--form", "block", "a", "b"], ["runs", "--form", "1", "--csv", "--csv", "-"], ["export", "--csv", "--form", "1", "--form", "5", "-"]]
     for words in wrong:
         status, out, error = run(*words)
         check("usage of %s" % words, status == 2 and out == b"" and "--help" in error, (status, error))
@@ -433,14 +448,37 @@ def runs_cases():
 def rows_of(out):
     """Rows of CSV, with None for an empty cell."""
     cells = [[cell or None for cell in row] for row in csv.reader(io.StringIO(out.decode()))]
-    return [(*row[:3], row[3] and int(row[3])) for row in cells[1:]] if cells[:1] == [["kind", "first", "last", "seconds"]] else []
+    names = [["rack", "kind", "first", "last", "seconds"]]
+    return [(int(row[0]), *row[1:4], row[4] and int(row[4])) for row in cells[1:]] if cells[:1] == names else []
+
+
+def objects_of(out):
+    """Rows of JSON, whose keys are in one order."""
+    objects = [json.loads(line) for line in out.splitlines()]
+    return [tuple(each.values()) for each in objects if list(each) == ["rack", "kind", "first", "last", "seconds"]]
+
+
+def text_of(lines):
+    """Rows of text, without their racks; None for a line that is none."""
+    line = r"(\w+) +(?:([-\d]+ [:\d]+)   ([-\d]+ [:\d]+) +|the next second is )(?:the same again|(\d+) s)(?: earlier)?"
+    found = [re.fullmatch(line, text) for text in lines]
+    return [match and (*match.groups()[:3], match[4] and int(match[4])) for match in found]
+
+
+def sums_of(rows):
+    """The line of sums of a rack's rows, as far as records that are passed over."""
+    of = {kind: [row[4] for row in rows if row[1] == kind] for kind in ("heard", "missing", "repeat", "back")}
+    numbers = len(of["heard"]), sum(of["heard"]), len(of["missing"]), sum(of["missing"]), len(of["repeat"]), len(of["back"])
+    return "runs %d, seconds heard %d, gaps %d, seconds missing %d, repeats %d, steps back %d, records passed over " % numbers
+
+
+WAYS = {"txt": [], "csv": ["--csv"], "json": ["--json"], "svg": ["--svg", "-", "--title", "Great hall, rack A & B"]}
 
 
 def test_runs_stored():
     """The stored outputs, byte for byte, each made twice."""
-    ways = {"txt": [], "csv": ["--csv"], "json": ["--json"], "svg": ["--svg", "-", "--title", "Great hall, rack A & B"]}
     for name, form, data in runs_cases():
-        for end, words in ways.items():
+        for end, words in WAYS.items():
             stored = RUNS / ("%s.%s" % (name, end))
             if name not in (*STORED, "hours", "day"):
                 continue
@@ -452,20 +490,15 @@ def test_runs_stored():
 
 def test_runs_listed():
     """CSV, JSON, text and sums are what is worked out from the log second by second."""
-    line = r"(\w+) +(?:([-\d]+ [:\d]+)   ([-\d]+ [:\d]+) +|the next second is )(?:the same again|(\d+) s)(?: earlier)?"
     for name, form, data in runs_cases():
-        wanted = listed(heard_in(form, data))
+        wanted = listed_of_racks([heard_in(form, data)])
         check("runs as CSV: " + name, rows_of(run("runs", "--csv", "--form", form, "-", given=data)[1]) == wanted, "")
-        objects = [json.loads(line) for line in run("runs", "--json", "--form", form, "-", given=data)[1].splitlines()]
-        check("runs as JSON: " + name, [tuple(o[key] for key in ("kind", "first", "last", "seconds")) for o in objects] == wanted, objects[:3])
+        check("runs as JSON: " + name, objects_of(run("runs", "--json", "--form", form, "-", given=data)[1]) == wanted, "")
         *lines, sums = run("runs", "--form", form, "-", given=data)[1].decode().splitlines()
-        found = [re.fullmatch(line, text) for text in lines]
-        check("runs as text: " + name, [match and (*match.groups()[:3], match[4] and int(match[4])) for match in found] == wanted, lines[:5])
+        check("runs as text: " + name, text_of(lines) == [row[1:] for row in wanted], lines[:5])
         widths = {len(text) for text in lines if text.split()[0] in ("heard", "missing")}
         check("runs in columns: " + name, len(widths) == 1, widths)
-        of = {kind: [row[3] for row in wanted if row[0] == kind] for kind in ("heard", "missing", "repeat", "back")}
-        numbers = len(of["heard"]), sum(of["heard"]), len(of["missing"]), sum(of["missing"]), len(of["repeat"]), len(of["back"])
-        spelled = "runs %d, seconds heard %d, gaps %d, seconds missing %d, repeats %d, steps back %d, records passed over 0" % numbers
+        spelled = sums_of(wanted) + "0"
         check("sums of runs: " + name, sums == spelled, sums)
         check("sums beside CSV: " + name, run("runs", "--csv", "--form", form, "-", given=data)[2].splitlines()[1:] == [spelled], "")
 
@@ -480,12 +513,188 @@ def test_runs_pictures():
         check("line of the picture of " + name, Picture(out).line == lines[name], Picture(out).line)
 
 
+def pair_cases(folder):
+    """Each case of two logs: name, the words that name forms and logs, the seconds of each rack, how many records it passes over."""
+    for name, logs in PAIRS.items():
+        words, racks, passed_over = [], [], []
+        for rack, seconds in zip("ab", logs):
+            form = {**STORED, "undated": "sysplex"}.get(seconds, "racal") if isinstance(seconds, str) else "racal"
+            data = (RUNS / (seconds + ".log")).read_bytes() if isinstance(seconds, str) else racal(seconds)
+            path = folder / ("rack-%s.log" % rack)
+            path.write_bytes(data)
+            words += ["--form", form, str(path)]
+            racks.append([] if seconds == "undated" else heard_in(form, data))
+            passed_over.append(12 if seconds == "undated" else 0)
+        yield name, words, racks, passed_over
+
+
+def test_runs_pairs_stored(folder):
+    """The stored outputs of two logs, byte for byte."""
+    for name, logs, racks, _ in pair_cases(folder):
+        for end, words in WAYS.items():
+            stored = RUNS / ("%s.%s" % (name, end))
+            status, out, error = run("runs", *words, *logs)
+            check("stored: " + stored.name, status == (0 if all(racks) else 1) and out == stored.read_bytes(), (status, error, out[:200]))
+
+
+def test_runs_pairs_listed(folder):
+    """CSV, JSON, text, sums and pictures of two racks are what is worked out from each log by itself."""
+    lines = {"pair-forms": 60, "pair-leap": 60, "pair-many": 600, "pair-day": 3600, "pair-days": 60, "pair-nothing": 60}
+    for name, logs, racks, passed_over in pair_cases(folder):
+        wanted = listed_of_racks(racks)
+        of_rack = [[row for row in wanted if row[0] == rack] for rack in (0, 1)]
+        sums = [sums_of(rows) + str(count) for rows, count in zip(of_rack, passed_over)]
+        _, out, error = run("runs", "--csv", *logs)
+        check("two racks as CSV: " + name, rows_of(out) == wanted, out[:200])
+        told = [line for line in error.splitlines() if ": runs " in line]
+        check("sums beside CSV: " + name, [text.split(", refused")[0] for text in told] == ["rack %d: %s" % each for each in enumerate(sums)], told)
+        check("two racks as JSON: " + name, objects_of(run("runs", "--json", *logs)[1]) == wanted, "")
+        text = run("runs", *logs)[1].decode().splitlines()
+        heads = [at for at, line in enumerate(text) if line.startswith("rack ")]
+        check("headings: " + name, [text[at] for at in heads] == ["rack %d: rack-%s.log, form %s" % (rack, "ab"[rack], logs[3 * rack + 1]) for rack in (0, 1)], heads)
+        for rack, part in enumerate([text[1:heads[-1]], text[heads[-1] + 1:]]):
+            check("rack %d as text: %s" % (rack, name), text_of(part[:-1]) == [row[1:] for row in of_rack[rack]], part[:5])
+            check("sums of rack %d: %s" % (rack, name), part[-1].split(", refused")[0] == sums[rack], part[-1])
+        out = run("runs", "--svg", "-", *logs)[1]
+        found = faults(out, *racks)
+        check("picture of " + name, not found, found[:5])
+        check("the other rack's seconds are noticed in the picture of " + name, faults(out, *racks[::-1]), "")
+        check("line of the picture of " + name, Picture(out).line == lines[name], Picture(out).line)
+        headings = [words for words in Picture(out).words if words.startswith("Rack ")]
+        check("names of the racks in the picture of " + name, headings == ["Rack 0: rack-a.log", "Rack 1: rack-b.log"], headings)
+
+
+def test_runs_pairs_wandering(folder):
+    """Two clocks that leave seconds out, repeat, are set back and have leap seconds: each is told what it is told alone."""
+    for seed in range(40):
+        racks = wandering(seed), wandering(1000 + seed % 4)
+        paths = [folder / name for name in ("first.log", "second.log")]
+        for path, seconds in zip(paths, racks):
+            path.write_bytes(racal(seconds))
+        out = run("runs", "--csv", "--form", "racal", *map(str, paths))[1]
+        check("racks of seed %d" % seed, rows_of(out) == listed_of_racks(racks), out[:200])
+        alone = [run("runs", "--csv", "--form", "racal", str(path))[1].splitlines()[1:] for path in paths]
+        check("a rack as alone, seed %d" % seed, out.splitlines()[1:] == alone[0] + [b"1" + line[1:] for line in alone[1]], out[:200])
+        found = faults(run("runs", "--svg", "-", "--form", "racal", *map(str, paths))[1], *racks)
+        check("picture of racks of seed %d" % seed, not found, found[:5])
+
+
+def test_runs_pairs_forms(folder):
+    """A form for both logs, or one for each, wherever they stand; standard input is either log."""
+    path = folder / "evening.log"
+    path.write_bytes(racal(EVENING))
+    gaps = (RUNS / "gaps.log").read_bytes()
+    racks = [heard_in("standard", gaps), EVENING]
+    wanted = listed_of_racks(racks)
+    of_first = [row for row in wanted if row[0] == 0]
+    for words, told in ((["--form", "standard", "--form", "racal", "-", str(path)], (0, wanted)), (["-", "--form=1", str(path), "--form=5"], (0, wanted)),
+                        (["--form", "1", "--", "-", str(path)], (1, of_first))):
+        status, out, error = run("runs", "--csv", *words, given=gaps)
+        check("forms of two logs %s" % words, (status, rows_of(out)) == told, (status, error))
+    status, out, error = run("runs", "--json", "--form", "racal", "--form", "standard", str(path), "-", given=gaps)
+    check("standard input as rack 1", (status, objects_of(out)) == (0, listed_of_racks(racks[::-1])), (status, error))
+    status, out, _ = run("runs", "--svg", "-", "--form", "racal", "--form", "standard", str(path), "-", given=gaps)
+    drawn = Picture(out)
+    check("names of two logs as the title", (drawn.root[0].text, drawn.words[0]) == ("evening.log and standard input",) * 2, drawn.words[:3])
+    forms = [words for words in drawn.words if words.startswith("Time strings of form")]
+    check("forms of two racks in a picture", [words.split(",")[0].split()[-1] for words in forms] == ["racal", "standard"], forms)
+    odd = folder / "odd\nrack 7: \x1b.log"
+    odd.write_bytes(RACAL)
+    out = run("runs", "--form", "racal", str(odd), str(path))[1]
+    check("a name that would be two lines", out.startswith("rack 0: odd\ufffdrack 7: \ufffd.log, form racal\nheard ".encode()), out[:80])
+
+
+def test_runs_pairs_nothing(folder):
+    """A rack of which nothing was heard is status 1 and told, and the other one is whole; the picture says so."""
+    heard, silent, drawn = folder / "heard.log", folder / "silent.log", folder / "one.svg"
+    heard.write_bytes(racal(EVENING))
+    silent.write_bytes(A)
+    for logs in ([heard, silent], [silent, heard]):
+        rack, other = logs.index(silent), logs.index(heard)
+        wanted = listed_of_racks([EVENING if log == heard else [] for log in logs])
+        drawn.unlink(missing_ok=True)
+        status, out, error = run("runs", "--csv", "--form", "racal", "--svg", str(drawn), *map(str, logs))
+        check("nothing of rack %d" % rack, (status, rows_of(out)) == (1, wanted), (status, out[:200]))
+        told = "rack %d: no string of racal was heard; `lindenscoop why FILE`" % rack
+        check("rack %d is told" % rack, told in error and "rack %d: no string" % other not in error, error)
+        found = faults(drawn.read_bytes(), *(EVENING if log == heard else [] for log in logs))
+        check("picture without rack %d" % rack, not found, found[:5])
+    drawn.unlink()
+    status, out, error = run("runs", "--form", "racal", "--svg", str(drawn), str(silent), str(silent))
+    check("nothing of both racks", status == 1 and error.count("no string of racal was heard") == 2 and b"heard  " not in out, (status, out, error))
+    check("no picture of nothing of both racks", not drawn.exists(), "")
+
+
+def test_runs_pairs_fail(folder):
+    """A log that fails is told, does not keep the other from being listed, and leaves no picture; one that is not there is told before all else."""
+    heard, drawn = folder / "heard.log", folder / "failed.svg"
+    heard.write_bytes(racal(EVENING))
+    for logs in ([heard, folder], [folder, heard]):
+        status, out, error = run("runs", "--csv", "--form", "racal", "--svg", str(drawn), *map(str, logs))
+        rows = listed_of_racks([EVENING if log == heard else [] for log in logs])
+        check("a directory as rack %d" % logs.index(folder), (status, rows_of(out)) == (3, rows) and "directory" in error and not drawn.exists(), (status, error))
+    status, out, error = run("runs", "--form", "racal", str(folder), str(folder))
+    check("two directories", status == 3 and error.count("directory") == 2, (status, error))
+    for logs in ([heard, folder / "none"], [folder / "none", heard]):
+        status, out, error = run("runs", "--csv", "--form", "racal", *map(str, logs))
+        check("a second log that is not there", (status, out) == (3, b"") and "none" in error, (status, out, error))
+    with open("/dev/full", "wb") as full:
+        status, _, error = run("runs", "--form", "racal", "--svg", str(drawn), str(heard), str(heard), stdout=full)
+    check("full disk: two racks", status == 3 and error.count("cannot write") == 1 and not drawn.exists(), (status, error))
+
+
+def test_runs_pairs_ports(folder):
+    """Two logs are read one behind the other, so that a port is refused, with words on what to do."""
+    heard = folder / "heard.log"
+    heard.write_bytes(racal(EVENING))
+    clock, port = pty.openpty()
+    before = termios.tcgetattr(port)
+    for logs in ([os.ttyname(port), str(heard)], [str(heard), os.ttyname(port)], [os.ttyname(port)] * 2):
+        status, out, error = run("runs", "--form", "racal", *logs)
+        check("a port beside a log", (status, out) == (2, b"") and os.ttyname(port) in error and "--record FILE" in error, (status, out, error))
+    check("the port is as it was", termios.tcgetattr(port) == before, "")
+    os.close(clock)
+    os.close(port)
+
+
+def test_runs_pairs_stopped(folder):
+    """Ctrl-C in one of two logs is a failure; what was heard before is printed, and the sums of a log that was not read to its end are not."""
+    heard, long, drawn = folder / "heard.log", folder / "long rack.log", folder / "stopped.svg"
+    heard.write_bytes(racal(EVENING))
+    with open(long, "wb") as file:
+        file.write(racal(EVENING))
+        file.truncate(1 << 36)
+    sums = (sums_of(listed_of_racks([EVENING])) + "0\n").encode()
+    for logs, count, told in (([heard, long], 1, b"\nrack 1: long rack.log"), ([long, heard], 0, b"rack 0: long rack.log")):
+        process = start("runs", "--form", "racal", *map(str, logs), "--svg", str(drawn))
+        out = wait_for(process.stdout, told)
+        while b"heard " not in out.split(told)[1]:
+            out += wait_for(process.stdout, b"heard ")
+        process.send_signal(signal.SIGINT)
+        out += process.stdout.read()
+        status, error = finish(process)
+        check("Ctrl-C in rack %d" % logs.index(long), status == 3 and "stopped before the end of" in error and not drawn.exists(), (status, error))
+        check("sums of what was read to its end", out.count(sums) == count and out.count(b"seconds heard") == count, out)
+        check("the log that was not read is told", ("stopped before %s was read; rack 1 is not in the list" % heard in error) == (logs[0] == long), error)
+    long.unlink()
+    process = start("runs", "--csv", "--form", "racal", "-", str(heard), stdin=subprocess.PIPE)
+    process.stdin.write(racal(EVENING))
+    process.stdin.flush()
+    out = wait_for(process.stdout, b"0,heard")
+    process.send_signal(signal.SIGINT)
+    out += process.stdout.read()
+    process.stdin.close()
+    process.stdin = None
+    status, error = finish(process)
+    check("Ctrl-C in a pipe before a log", status == 3 and "was read; rack 1" in error and b"\n1," not in out, (status, error, out[-200:]))
+
+
 def test_runs_wandering():
     """A clock that goes on, leaves some seconds out, repeats, is set back and has leap seconds."""
     for seed in range(40):
         seconds = wandering(seed)
         out = run("runs", "--csv", "--form", "racal", "-", given=racal(seconds))[1]
-        check("runs of seed %d" % seed, rows_of(out) == listed(seconds), out[:200])
+        check("runs of seed %d" % seed, rows_of(out) == listed_of_racks([seconds]), out[:200])
         found = faults(run("runs", "--svg", "-", "--form", "racal", "-", given=racal(seconds))[1], seconds)
         check("picture of seed %d" % seed, not found, found[:5])
 
@@ -522,7 +731,7 @@ def test_runs_nothing(folder):
     wanted = "end bytes=192 telegrams=12\n", "12 strings of sysplex", "refused with 14: ", "whole date, such as standard"
     check("strings without a date", (status, out) == (1, b"") and all(words in error for words in wanted), (status, out, error))
     check("no picture of strings without a date", not drawn.exists(), "")
-    for words, head in ((["--csv"], b"kind,first,last,seconds\n"), (["--json"], b""), ([], b""), (["--svg", "-"], b"")):
+    for words, head in ((["--csv"], b"rack,kind,first,last,seconds\n"), (["--json"], b""), ([], b""), (["--svg", "-"], b"")):
         status, out, error = run("runs", "--form", "racal", *words, "-", given=A)
         check("nothing heard %s" % words, (status, out) == (1, head) and "lindenscoop why" in error and "telegrams=0" in error, (status, out, error))
 
@@ -579,10 +788,10 @@ def test_runs_at_once():
     process.stdin.write(given)
     process.stdin.flush()
     first = wait_for(process.stdout, b",3\n")
-    check("a run when it is ended", first.endswith(b"heard,2024-05-04 20:00:00,2024-05-04 20:00:02,3\n"), first)
+    check("a run when it is ended", first.endswith(b"0,heard,2024-05-04 20:00:00,2024-05-04 20:00:02,3\n"), first)
     process.stdin.close()
     rest = process.stdout.read().splitlines()
-    check("the last run at the end", rest[-1:] == [b"heard,2024-05-04 20:00:10,2024-05-04 20:00:10,1"] and process.wait(SECONDS) == 0, rest)
+    check("the last run at the end", rest[-1:] == [b"0,heard,2024-05-04 20:00:10,2024-05-04 20:00:10,1"] and process.wait(SECONDS) == 0, rest)
     clock, port = pty.openpty()
     process = start("runs", "--form", "racal", "--baud", "9600", os.ttyname(port))
     wait_for(process.stderr, b"Ctrl-C")

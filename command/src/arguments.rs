@@ -22,6 +22,15 @@ fn text(word: OsString) -> Result<String, Failure> {
 
 impl Arguments {
     pub fn new(words: Vec<OsString>, known: &[Known]) -> Result<Arguments, Failure> {
+        Arguments::with_repeats(words, known, &[])
+    }
+
+    /// Some options may be given more than once.
+    pub fn with_repeats(
+        words: Vec<OsString>,
+        known: &[Known],
+        repeated: &[&str],
+    ) -> Result<Arguments, Failure> {
         let mut arguments = Arguments::default();
         let mut words = words.into_iter();
         while let Some(word) = words.next() {
@@ -33,7 +42,21 @@ impl Arguments {
                 arguments.rest.push(PathBuf::from(word));
             }
         }
+        arguments.check_once(repeated)?;
         Ok(arguments)
+    }
+
+    fn check_once(&self, repeated: &[&str]) -> Result<(), Failure> {
+        let once = self
+            .options
+            .iter()
+            .filter(|(name, _)| !repeated.contains(name));
+        for (name, _) in once {
+            if self.values(name).len() > 1 {
+                return Err(Failure::usage(format!("{name} is given twice")));
+            }
+        }
+        Ok(())
     }
 
     fn option(
@@ -58,16 +81,18 @@ impl Arguments {
                 None => return Err(Failure::usage(format!("{name} needs a value"))),
             },
         };
-        if self.value(name).is_some() {
-            return Err(Failure::usage(format!("{name} is given twice")));
-        }
         self.options.push((name, value));
         Ok(())
     }
 
     pub fn value(&self, name: &str) -> Option<&str> {
-        let found = self.options.iter().find(|(option, _)| *option == name);
-        found.map(|(_, value)| value.as_str())
+        self.values(name).first().copied()
+    }
+
+    /// All values of an option, in order.
+    pub fn values(&self, name: &str) -> Vec<&str> {
+        let found = self.options.iter().filter(|(option, _)| *option == name);
+        found.map(|(_, value)| value.as_str()).collect()
     }
 
     pub fn has(&self, name: &str) -> bool {

@@ -65,21 +65,25 @@ Exit status: 0 heard, 1 nothing heard, 2 a wrong call, 3 a read or write failed.
 ";
 
 pub const RUNS: &str = "\
-lindenscoop runs --form FORM [--csv | --json] [--svg PICTURE] [--title TEXT] FILE|-
+lindenscoop runs --form FORM [--csv | --json] [--svg PICTURE] [--title TEXT] FILE|- [FILE|-]
 
 Tells which seconds were heard: a line for each run of seconds that follow each other, and
 between two runs a line for the seconds that are missing, with the first and the last of
 them and how many they are; then a line with the sums.
 
+Two logs are those of two racks, the first of rack 0 and the second of rack 1. They are read
+one behind the other, and each has its own list and sums below a line with its name. Neither
+changes what is told of the other.
+
   --form FORM     standard, capture, erlangen, spa, racal, sysplex, computime, sat, rmc,
-                  or 1 to 7, 10 and 12
-  --csv           a line of names, then a row for each line: kind,first,last,seconds
+                  or 1 to 7, 10 and 12; once for both logs, or twice, in the logs' order
+  --csv           a line of names, then a row for each line: rack,kind,first,last,seconds
   --json          an object to a line, with these keys; with both the sums come on standard
-                  error
+                  error. The rack of one log is 0
   --svg PICTURE   draws heard and missing seconds in a new file; - prints the picture in
                   place of the list
-  --title TEXT    the picture's title, the log's name if not given
-  --baud, --framing   where the log is a serial port, as for listen
+  --title TEXT    the picture's title, the logs' names if not given
+  --baud, --framing   where the log is a serial port, as for listen; one log alone can be
 
 A line is heard, missing, repeat (the next second is the same again) or back (the next second
 is earlier, by so many seconds: the clock was set back, or summer time ended). A repeat has no
@@ -91,11 +95,14 @@ Records without a full date, as all of sysplex, tell no second: they are passed 
 counted, with the refusal 14.
 
 A picture has a line for a minute, ten minutes, an hour or a day, so that it is a page. It
-counts each second once, however often it was heard, from the earliest to the latest.
+counts each second once, however often it was heard, from the earliest to the latest. Two
+racks stand in each line, rack 0 above rack 1, by the times that their clocks sent.
 
   lindenscoop runs --form standard --svg hall.svg --title 'Great hall, rack A' clock.log
+  lindenscoop runs --form standard --form racal --svg hall.svg rack-a.log rack-b.log
 
-Exit status: 0 a second was heard, 1 none, 2 a wrong call, 3 a read or write failed.
+Exit status: 0 a second was heard in each log, 1 none in one of them, 2 a wrong call, 3 a read
+or write failed.
 ";
 
 pub const WHY: &str = "\

@@ -1,4 +1,4 @@
-//! The list of the runs and of what lies between them, as text, CSV or JSON, and its sums.
+//! The list of a rack's runs and of what lies between them, as text, CSV or JSON, and its sums.
 
 use std::fmt::Write;
 
@@ -17,6 +17,7 @@ pub enum Layout {
 
 /// What a line tells. What it has not is absent, never 0.
 struct Line {
+    rack: u32,
     kind: &'static str,
     span: Option<(Moment, Moment)>,
     seconds: Option<u64>,
@@ -34,26 +35,30 @@ pub struct Totals {
 }
 
 pub struct Listing {
+    rack: u32,
     layout: Layout,
     /// the last second of the run before
     end: Option<Moment>,
     pub totals: Totals,
 }
 
+impl Layout {
+    /// The line of names.
+    pub fn header(self) -> &'static str {
+        match self {
+            Layout::Csv => "rack,kind,first,last,seconds\n",
+            Layout::Text | Layout::Json => "",
+        }
+    }
+}
+
 impl Listing {
-    pub fn new(layout: Layout) -> Listing {
+    pub fn new(rack: u32, layout: Layout) -> Listing {
         Listing {
+            rack,
             layout,
             end: None,
             totals: Totals::default(),
-        }
-    }
-
-    /// The line of names.
-    pub fn header(&self) -> &'static str {
-        match self.layout {
-            Layout::Csv => "kind,first,last,seconds\n",
-            Layout::Text | Layout::Json => "",
         }
     }
 
@@ -67,6 +72,7 @@ impl Listing {
         self.totals.runs += 1;
         self.totals.heard += u64::from(run.count);
         let line = Line {
+            rack: self.rack,
             kind: "heard",
             span: Some((first, last)),
             seconds: Some(run.count.into()),
@@ -95,6 +101,7 @@ impl Listing {
             }
         };
         self.line(&Line {
+            rack: self.rack,
             kind,
             span,
             seconds,
@@ -143,7 +150,8 @@ impl Line {
         let (first, last) = self.ends().unwrap_or_default();
         let seconds = self.seconds.map(|seconds| seconds.to_string());
         let seconds = seconds.unwrap_or_default();
-        format!("{},{first},{last},{seconds}\n", self.kind)
+        let Line { rack, kind, .. } = self;
+        format!("{rack},{kind},{first},{last},{seconds}\n")
     }
 
     fn json(&self) -> String {
@@ -155,10 +163,8 @@ impl Line {
         let seconds = self
             .seconds
             .map_or_else(null, |seconds| seconds.to_string());
-        format!(
-            "{{\"kind\":\"{}\",\"first\":{first},\"last\":{last},\"seconds\":{seconds}}}\n",
-            self.kind
-        )
+        let Line { rack, kind, .. } = self;
+        format!("{{\"rack\":{rack},\"kind\":\"{kind}\",\"first\":{first},\"last\":{last},\"seconds\":{seconds}}}\n")
     }
 
     fn ends(&self) -> Option<(String, String)> {
@@ -173,15 +179,15 @@ mod tests {
     use crate::moment::tests::second;
 
     /// Runs around a leap second: a gap, a repeat, a step back.
-    fn listed(layout: Layout) -> (String, String) {
+    fn listed(rack: u32, layout: Layout) -> (String, String) {
         let runs = [
             ("2016-12-31 23:59:50", "2016-12-31 23:59:53", 4),
             ("2016-12-31 23:59:55", "2017-01-01 00:00:02", 9),
             ("2017-01-01 00:00:02", "2017-01-01 00:00:04", 3),
             ("2017-01-01 00:00:00", "2017-01-01 00:00:00", 1),
         ];
-        let mut listing = Listing::new(layout);
-        let mut out = listing.header().to_string();
+        let mut listing = Listing::new(rack, layout);
+        let mut out = layout.header().to_string();
         for (first, last, count) in runs {
             let (first, last) = (second(first), second(last));
             out += &listing.add(&Run { first, last, count });
@@ -191,7 +197,8 @@ mod tests {
 
     #[test]
     fn text() {
-        let (out, summary) = listed(Layout::Text);
+        let (out, summary) = listed(1, Layout::Text);
+        assert_eq!((out.clone(), summary.clone()), listed(0, Layout::Text));
         assert_eq!(
             out,
             "heard    2016-12-31 23:59:50   2016-12-31 23:59:53          4 s\n\
@@ -206,20 +213,40 @@ mod tests {
             summary,
             format!("runs 4, seconds heard 17, gaps 1, seconds missing 1, repeats 1, steps back 1, records passed over 2, {}", Refusal::NoSecond)
         );
-        let none = Listing::new(Layout::Text).summary(0);
+        let none = Listing::new(0, Layout::Text).summary(0);
         assert!(none.ends_with("records passed over 0"), "{none}");
     }
 
     /// What a line has not is an empty cell or null, never 0.
     #[test]
     fn absent() {
-        let (csv, _) = listed(Layout::Csv);
-        assert!(csv.starts_with("kind,first,last,seconds\nheard,2016-12-31 23:59:50,2016-12-31 23:59:53,4\nmissing,2016-12-31 23:59:54,2016-12-31 23:59:54,1\n"));
-        assert!(csv.contains("\nrepeat,,,\n") && csv.contains("\nback,,,4\n"));
-        let (json, _) = listed(Layout::Json);
-        assert!(json.starts_with("{\"kind\":\"heard\",\"first\":\"2016-12-31 23:59:50\",\"last\":\"2016-12-31 23:59:53\",\"seconds\":4}\n"));
-        assert!(json
-            .contains("\n{\"kind\":\"repeat\",\"first\":null,\"last\":null,\"seconds\":null}\n"));
-        assert!(json.contains("\n{\"kind\":\"back\",\"first\":null,\"last\":null,\"seconds\":4}\n"));
+        let (csv, _) = listed(0, Layout::Csv);
+        assert!(csv.starts_with("rack,kind,first,last,seconds\n0,heard,2016-12-31 23:59:50,2016-12-31 23:59:53,4\n0,missing,2016-12-31 23:59:54,2016-12-31 23:59:54,1\n"));
+        assert!(csv.contains("\n0,repeat,,,\n") && csv.contains("\n0,back,,,4\n"));
+        let (json, _) = listed(0, Layout::Json);
+        assert!(json.starts_with("{\"rack\":0,\"kind\":\"heard\",\"first\":\"2016-12-31 23:59:50\",\"last\":\"2016-12-31 23:59:53\",\"seconds\":4}\n"));
+        let absent = "\"first\":null,\"last\":null,\"seconds\"";
+        for line in [
+            format!("\n{{\"rack\":0,\"kind\":\"repeat\",{absent}:null}}\n"),
+            format!("\n{{\"rack\":0,\"kind\":\"back\",{absent}:4}}\n"),
+        ] {
+            assert!(json.contains(&line), "{line}");
+        }
+    }
+
+    /// Every row says which rack it is of, and is else the same.
+    #[test]
+    fn racks() {
+        let (csv, _) = listed(1, Layout::Csv);
+        assert_eq!(csv, listed(0, Layout::Csv).0.replace("\n0,", "\n1,"));
+        assert_eq!(csv.matches("\n1,").count(), 7);
+        let (json, _) = listed(1, Layout::Json);
+        assert_eq!(
+            json,
+            listed(0, Layout::Json)
+                .0
+                .replace("\"rack\":0,", "\"rack\":1,")
+        );
+        assert_eq!(json.matches("{\"rack\":1,").count(), 7);
     }
 }

@@ -1,4 +1,4 @@
-"""Reads a picture of heard and missing seconds from its own elements, and compares it with the seconds that were heard."""
+"""Reads a picture of heard and missing seconds from its own elements, and compares it with the seconds that were heard, of one rack or of two."""
 import collections
 import re
 import xml.etree.ElementTree
@@ -8,14 +8,19 @@ from seconds import at, number, told
 SVG = "{http://www.w3.org/2000/svg}"
 MISSING = "#c62828"
 LINES = {"a minute": 60, "ten minutes": 600, "an hour": 3600, "a day": 86400}
+LABELS = {60: slice(11, 16), 600: slice(11, 16), 3600: slice(11, 16), 86400: slice(0, 10)}
 ELEMENTS = {"svg", "title", "desc", "rect", "g", "text", "path", "circle"}
 TOTALS = r"Heard ([\d,]+) of ([\d,]+) seconds? \((less than 0.01|[\d.]+) %\), (?:([\d,]+) missing in ([\d,]+) gaps?|none missing)"
+TOGETHER = r"Seconds that both racks heard: ([\d,]+); rack 0 alone: ([\d,]+); rack 1 alone: ([\d,]+); missing in both: ([\d,]+)"
 TIME = r"\d{4}-\d\d-\d\d \d\d:\d\d:\d\d"
 
 Piece = collections.namedtuple("Piece", "heard missing first last x y width")
 
 
 class Picture:
+    # what each title begins with
+    lead = ""
+
     def __init__(self, text):
         self.root = xml.etree.ElementTree.fromstring(text)
         self.words = [element.text for element in self.root.iter(SVG + "text")]
@@ -32,8 +37,23 @@ class Picture:
         [found] = [group for group in self.root.iter(SVG + "g") if group.get("id") == name]
         return found
 
+    def strips(self, rack):
+        """The groups of one of two racks, in order."""
+        return [group for group in self.group("lines") if group.get("class") == "rack-%d" % rack]
+
+    def of_rack(self, rack, racks):
+        """What is drawn and said of a rack alone."""
+        return Strips(self, rack) if racks > 1 else self
+
+    def within(self):
+        return [self.group("lines")]
+
+    def elements(self, tag):
+        """Those of the lines that are of this rack."""
+        return [element for group in self.within() for element in group.iter(SVG + tag)]
+
     def marks(self, kind):
-        return [group for group in self.group("lines").iter(SVG + "g") if group.get("class") == kind]
+        return [group for group in self.elements("g") if group.get("class") == kind]
 
     def pieces(self, kind):
         """What the title of each piece says, and where it stands."""
@@ -46,17 +66,30 @@ class Picture:
     def sums(self):
         """The numbers at the right: missing seconds, and those heard again."""
         sums = {True: 0, False: 0}
-        for text in self.group("lines").iter(SVG + "text"):
+        for text in self.elements("text"):
             if int(text.get("x")) > self.right:
                 sums[text.get("fill") == MISSING] += as_number(text.text)
         return sums[True], sums[False]
 
     def triangles(self):
         """The points of those that stand above a missing second."""
-        paths = [path.get("d") for path in self.group("lines").iter(SVG + "path") if path.get("fill") == MISSING]
+        paths = [path.get("d") for path in self.elements("path") if path.get("fill") == MISSING]
         found = [re.fullmatch(r"M(\d+) (\d+)h(\d+)l-(\d+) (\d+)z", path) for path in paths]
         corners = [tuple(map(int, match.groups())) for match in found if match]
         return [(x + width - back, y + down) for x, y, width, back, down in corners]
+
+
+class Strips(Picture):
+    """One of two racks: its bands in each line, and the words between its heading and the next."""
+
+    def __init__(self, drawn, rack):
+        self.root, self.line, self.left, self.right, self.rack = drawn.root, drawn.line, drawn.left, drawn.right, rack
+        self.lead = "rack %d: " % rack
+        heads = [at for at, words in enumerate(drawn.words) if re.match(r"Rack \d: ", words)] + [len(drawn.words)]
+        self.words = drawn.words[heads[rack]:heads[rack + 1]]
+
+    def within(self):
+        return self.strips(self.rack)
 
 
 def as_number(text):
@@ -68,7 +101,8 @@ class Wanted:
 
     def __init__(self, seconds):
         counts = collections.Counter(seconds)
-        self.first, self.last = told(min(counts)), told(max(counts))
+        self.different = set(counts)
+        self.first, self.last = (told(min(counts)), told(max(counts))) if counts else (None, None)
         self.again = sum(count > 1 for count in counts.values())
         self.leap = {told(second) for second in counts if second[1] == 60}
         self.heard = spans((number(second), number(second) + (second[1] < 60)) for second in counts)
@@ -87,14 +121,18 @@ def spans(parts):
     return [tuple(span) for span in out]
 
 
-def faults(text, seconds):
-    """All that is wrong with a picture."""
+def faults(text, *logs):
+    """All that is wrong with a picture of the seconds of one rack, or of two."""
     try:
         drawn = Picture(text)
-    except (xml.etree.ElementTree.ParseError, KeyError, ValueError) as error:
+        found = list(page_faults(drawn))
+        racks = [Wanted(seconds) for seconds in logs]
+        for rack, wanted in enumerate(racks):
+            of_rack = drawn.of_rack(rack, len(racks))
+            found += [*word_faults(of_rack, wanted), *line_faults(of_rack, wanted), *place_faults(of_rack)]
+        return found + (list(pair_faults(drawn, *racks)) if len(racks) == 2 else [])
+    except (xml.etree.ElementTree.ParseError, KeyError, ValueError, IndexError) as error:
         return [repr(error)]
-    wanted = Wanted(seconds)
-    return [*page_faults(drawn), *word_faults(drawn, wanted), *line_faults(drawn, wanted), *place_faults(drawn)]
 
 
 def page_faults(drawn):
@@ -117,6 +155,10 @@ def page_faults(drawn):
 
 def word_faults(drawn, wanted):
     """The numbers in words; no part is rounded up to the whole, and none that was heard down to nothing."""
+    if not wanted.different:
+        if "No second was heard" not in drawn.words or any(re.fullmatch(TOTALS, words) for words in drawn.words):
+            yield "nothing was heard: %s" % drawn.words[:5]
+        return
     found = drawn.one(TOTALS)
     leap = len(wanted.leap)
     heard, lost = wanted.seconds[0] + leap, wanted.seconds[1]
@@ -150,7 +192,7 @@ def line_faults(drawn, wanted):
         if piece.heard + piece.missing != piece.last - piece.first:
             yield "a piece of other seconds than it says: %s" % (piece,)
     leap = [group.find(SVG + "title").text for group in drawn.marks("leap")]
-    if sorted(leap) != sorted("leap second heard: " + second for second in wanted.leap):
+    if sorted(leap) != sorted(drawn.lead + "leap second heard: " + second for second in wanted.leap):
         yield "leap seconds %s, not %s" % (leap, wanted.leap)
 
 
@@ -171,3 +213,51 @@ def place_faults(drawn):
         for (_, end), (begin, _) in zip(parts, parts[1:]):
             if begin < end:
                 yield "covered from %d to %d" % (begin, end)
+
+
+def pair_faults(drawn, first, second):
+    """In each line rack 0 stands above rack 1, both are of its time and as long as it, and the words tell what they have in common."""
+    lines = list(zip(drawn.strips(0), drawn.strips(1)))
+    order = [group.get("class") for group in drawn.group("lines") if group.tag == SVG + "g"]
+    if order != ["rack-0", "rack-1"] * len(lines) or not lines:
+        yield "racks in turn: %s" % order[:9]
+    below = 0
+    for strips in lines:
+        for rack, strip in enumerate(strips):
+            marks = {id(rect) for mark in strip if mark.get("class") in ("leap", "again") for rect in mark.iter(SVG + "rect")}
+            rects = [rect for rect in strip.iter(SVG + "rect") if id(rect) not in marks]
+            top, bottom = min(int(rect.get("y")) for rect in rects), max(int(rect.get("y")) + int(rect.get("height")) for rect in rects)
+            if top < below:
+                yield "rack %d at %d is above %d" % (rack, top, below)
+            below = bottom
+            if {x for rect in rects for x in range(int(rect.get("x")), int(rect.get("x")) + int(rect.get("width")))} != set(range(drawn.left, drawn.right)):
+                yield "rack %d at %d is not as long as its line" % (rack, top)
+            names = [text.text for text in strip.iter(SVG + "text") if int(text.get("x")) < drawn.left]
+            titles = [title.text for title in strip.iter(SVG + "title")]
+            if names != ["rack %d" % rack] or not all(title.startswith("rack %d: " % rack) for title in titles):
+                yield "names of rack %d at %d: %s %s" % (rack, top, names, titles[:3])
+    yield from label_faults(drawn)
+    found = [re.fullmatch(TOGETHER, words) for words in drawn.words]
+    both = first.different & second.different
+    wanted = [len(both), len(first.different - both), len(second.different - both), common(first.missing, second.missing)]
+    wanted = [wanted] if first.different and second.different else []
+    if [[as_number(text) for text in match.groups()] for match in found if match] != wanted:
+        yield "together: %s" % wanted
+
+
+def common(first, second):
+    """How many seconds two lists of spans have both."""
+    return sum(max(0, min(a[1], b[1]) - max(a[0], b[0])) for a in first for b in second)
+
+
+def label_faults(drawn):
+    """Both strips behind a label are of the line that it names."""
+    label = None
+    for element in drawn.group("lines"):
+        if element.tag == SVG + "text":
+            label = element.text
+        pieces = [title.text for mark in element.iter(SVG + "g") if mark.get("class") in ("heard", "missing", "mixed", "dense") for title in mark.iter(SVG + "title")]
+        for title in pieces:
+            begin = number(at(re.search(TIME, title)[0])) // drawn.line * drawn.line
+            if told(divmod(begin, 60))[LABELS[drawn.line]] != label:
+                yield "beside the label %s: %s" % (label, title)

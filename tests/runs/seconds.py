@@ -1,4 +1,4 @@
-"""Which seconds a log tells, and the list of its runs and gaps, worked out second by second. Written from document 02, W-206, and not from the command.
+"""Which seconds a log tells, and the list of its runs and gaps, worked out second by second. Written from document 02, W-206 and W-207, and not from the command.
 
 A second is a pair: the number of its minute since the year 1, and the second in it, 60 in a leap second.
 """
@@ -78,7 +78,9 @@ def between(last, first):
 
 
 def listed(seconds):
-    """The rows of the list: kind, first, last, seconds."""
+    """The rows of the list of one rack: kind, first, last, seconds."""
+    if not seconds:
+        return []
     rows, run = [], []
     for second in seconds:
         if run and not follows(second, run[-1]):
@@ -86,6 +88,11 @@ def listed(seconds):
             run = []
         run.append(second)
     return rows + [("heard", told(run[0]), told(run[-1]), len(run))]
+
+
+def listed_of_racks(logs):
+    """The rows of all racks, each with its rack; those of one do not depend on the other."""
+    return [(rack, *row) for rack, seconds in enumerate(logs) for row in listed(seconds)]
 
 
 def wandering(seed):

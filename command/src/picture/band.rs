@@ -3,7 +3,7 @@
 use crate::picture::coverage::Coverage;
 use crate::picture::lines::{again, line_span, lines, pieces, Kind, Line, Piece};
 use crate::picture::marks::{self, Band, NARROW};
-use crate::picture::page::{BAND_X, LEAP_WIDTH, LEAP_X, POINTER_X};
+use crate::picture::page::{LEAP, LEAP_WIDTH, POINTER};
 use crate::picture::svg::Svg;
 use crate::picture::unit::Unit;
 
@@ -18,19 +18,22 @@ pub struct Sums {
     pub again: u64,
 }
 
-/// Whether a line of the grid is drawn as a whole.
-pub fn has_dense(coverage: &Coverage, unit: &Unit) -> bool {
-    let is_dense = |line: &Line| match line {
-        Line::Time(line) => pieces(coverage, *line, unit).len() > DENSE,
-        Line::Date(_) | Line::Gathered { .. } => false,
+/// Whether a line of the grid is drawn as a whole, of some rack.
+pub fn has_dense(racks: &[Coverage], unit: &Unit) -> bool {
+    let is_dense = |line: u64| {
+        let mut pieces = racks.iter().map(|coverage| pieces(coverage, line, unit));
+        pieces.any(|pieces| pieces.len() > DENSE)
     };
-    lines(coverage, unit).iter().any(is_dense)
+    lines(racks, unit).iter().any(|line| match line {
+        Line::Time(line) => is_dense(*line),
+        Line::Date(_) | Line::Gathered { .. } => false,
+    })
 }
 
 /// Where a piece stands: x and width.
-fn place(piece: &Piece, unit: &Unit) -> (u64, u64) {
+fn place(piece: &Piece, unit: &Unit, band: Band) -> (u64, u64) {
     let column = unit.column_width();
-    (BAND_X + piece.first * column, piece.columns * column)
+    (band.x + piece.first * column, piece.columns * column)
 }
 
 /// Draws a line by its number.
@@ -47,20 +50,20 @@ pub fn draw(svg: &mut Svg, coverage: &Coverage, unit: &Unit, line: u64, band: Ba
     let again = draw_again(svg, coverage, unit, line, band);
     // drawn last, so that no mark hides them
     let with_missing = pieces.iter().filter(|piece| piece.missing > 0);
-    for (x, width) in with_missing.clone().map(|piece| place(piece, unit)) {
+    for (x, width) in with_missing.clone().map(|piece| place(piece, unit, band)) {
         if width < NARROW && !is_dense {
             marks::triangle(svg, band, x, width);
         }
     }
     let missing = with_missing.map(|piece| piece.missing).sum();
     if missing > 0 {
-        marks::pointer(svg, band, POINTER_X);
+        marks::pointer(svg, band, band.x + POINTER);
     }
     Sums { missing, again }
 }
 
 fn piece(svg: &mut Svg, unit: &Unit, band: Band, piece: &Piece) {
-    let (x, width) = place(piece, unit);
+    let (x, width) = place(piece, unit, band);
     let Piece { heard, missing, .. } = piece;
     match piece.kind {
         Kind::Outside => marks::outside(svg, band.area(x, width)),
@@ -86,7 +89,7 @@ fn piece(svg: &mut Svg, unit: &Unit, band: Band, piece: &Piece) {
 fn dense(svg: &mut Svg, unit: &Unit, band: Band, pieces: &[Piece]) {
     let outside = |piece: &&Piece| piece.kind == Kind::Outside;
     for piece in pieces.iter().filter(outside) {
-        let (x, width) = place(piece, unit);
+        let (x, width) = place(piece, unit, band);
         marks::outside(svg, band.area(x, width));
     }
     let known: Vec<&Piece> = pieces.iter().filter(|piece| !outside(piece)).collect();
@@ -98,9 +101,9 @@ fn dense(svg: &mut Svg, unit: &Unit, band: Band, pieces: &[Piece]) {
     let mut span = first.span;
     span.to = last.span.to;
     let title = format!("heard {heard} s, missing {missing} s: {}", span.words());
-    let (x, (end, width)) = (place(first, unit).0, place(last, unit));
+    let (x, (end, width)) = (place(first, unit, band).0, place(last, unit, band));
     let areas = known.iter().filter_map(|piece| {
-        let (x, width) = place(piece, unit);
+        let (x, width) = place(piece, unit, band);
         match piece.kind {
             Kind::Heard => Some(band.area(x, width)),
             Kind::Mixed => Some(band.lower_third(x, width)),
@@ -116,7 +119,7 @@ fn draw_again(svg: &mut Svg, coverage: &Coverage, unit: &Unit, line: u64, band: 
     let parts = again(coverage, line, unit);
     let places = parts
         .iter()
-        .map(|(first, columns, _)| (BAND_X + first * column, columns * column));
+        .map(|(first, columns, _)| (band.x + first * column, columns * column));
     let sum: u64 = parts.iter().map(|(_, _, seconds)| seconds).sum();
     if parts.len() > DENSE {
         let strips = places.map(|(x, width)| band.lower_third(x, width));
@@ -146,14 +149,14 @@ fn draw_leap_seconds(
             continue;
         }
         let title = format!("leap second heard: {}", leap.moment());
-        let x = BAND_X + unit.x(before + 1 - span.from);
+        let (x, behind) = (band.x + unit.x(before + 1 - span.from), band.x + LEAP);
         match unit.has_wide_columns() {
-            true => marks::leap_column(svg, band.area(LEAP_X, LEAP_WIDTH), &title),
-            false => marks::leap_mark(svg, band, Some(x), LEAP_X, &title),
+            true => marks::leap_column(svg, band.area(behind, LEAP_WIDTH), &title),
+            false => marks::leap_mark(svg, band, Some(x), behind, &title),
         }
         if leap.times > 1 {
             let title = format!("heard more than once: {}", leap.moment());
-            marks::again(svg, band, LEAP_X, LEAP_WIDTH, &title);
+            marks::again(svg, band, behind, LEAP_WIDTH, &title);
             again += 1;
         }
     }
@@ -168,6 +171,7 @@ mod tests {
     use crate::picture::unit::UNITS;
 
     const BAND: Band = Band {
+        x: 180,
         y: 10,
         height: 20,
         above: 5,
@@ -182,7 +186,7 @@ mod tests {
             .map(|second| format!("{second} {second}"))
             .collect();
         let runs: Vec<&str> = runs.iter().map(String::as_str).collect();
-        let coverage = Coverage::new(&log(&runs, &[])).unwrap();
+        let coverage = Coverage::new(&log(&runs, &[]));
         let line = moment("2024-01-01 12:00:00").number() / unit.seconds;
         let mut svg = Svg::default();
         let sums = draw(&mut svg, &coverage, unit, line, BAND);
@@ -207,7 +211,7 @@ mod tests {
             runs.push(format!("{at} {at}"));
         }
         let runs: Vec<&str> = runs.iter().map(String::as_str).collect();
-        let coverage = Coverage::new(&log(&runs, &[])).unwrap();
+        let coverage = Coverage::new(&log(&runs, &[]));
         let line = moment("2024-01-01 12:00:00").number() / unit.seconds;
         let mut svg = Svg::default();
         let sums = draw(&mut svg, &coverage, unit, line, BAND);

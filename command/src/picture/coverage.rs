@@ -58,10 +58,10 @@ impl LeapSecond {
     }
 }
 
-/// All lists are in order, and no span touches the next one of its list.
+/// What was heard of one rack. All lists are in order, and no span touches the next one of its list.
 pub struct Coverage {
-    pub first: Moment,
-    pub last: Moment,
+    /// the first and the last second; none where nothing was heard
+    pub ends: Option<(Moment, Moment)>,
     /// from the first second to the last; before and behind it nothing is known
     pub whole: Span,
     pub heard: Vec<Span>,
@@ -75,27 +75,26 @@ pub struct Coverage {
 }
 
 impl Coverage {
-    /// None where nothing was heard.
-    pub fn new(log: &Heard) -> Option<Coverage> {
-        let first = log.runs.iter().map(|run| Moment::of(&run.first)).min()?;
-        let last = log.runs.iter().map(|run| Moment::of(&run.last)).max()?;
-        let whole = Span {
+    pub fn new(log: &Heard) -> Coverage {
+        let first = log.runs.iter().map(|run| Moment::of(&run.first)).min();
+        let last = log.runs.iter().map(|run| Moment::of(&run.last)).max();
+        let ends = first.zip(last);
+        let whole = ends.map_or(Span { from: 0, to: 0 }, |(first, last)| Span {
             from: first.number(),
             to: number_behind(last),
-        };
+        });
         let spans: Vec<Span> = log.runs.iter().map(span).collect();
         let heard = covered(&spans, 1);
         let leap_seconds = leap_seconds(log);
-        Some(Coverage {
-            first,
-            last,
+        Coverage {
+            ends,
             whole,
             missing: missing(whole, &heard, &leap_seconds),
             heard,
             again: covered(&spans, 2),
             leap_seconds,
             steps_back: steps_back(&log.runs),
-        })
+        }
     }
 
     /// How many different seconds were heard.
@@ -209,7 +208,7 @@ pub mod tests {
     }
 
     fn coverage(runs: &[&str], leap: &[&str]) -> Coverage {
-        Coverage::new(&log(runs, leap)).unwrap()
+        Coverage::new(&log(runs, leap))
     }
 
     /// Spans by the seconds from 12:00:00 on.
@@ -256,8 +255,8 @@ pub mod tests {
         // set back and not come up again
         let found = coverage(&["12:10:00 12:10:09", "12:00:00 12:00:09"], &[]);
         assert_eq!(told(&found.missing), [(10, 600)]);
-        assert_eq!(found.first, moment("2024-01-01 12:00:00"));
-        assert_eq!(found.last, moment("2024-01-01 12:10:09"));
+        let ends = ["2024-01-01 12:00:00", "2024-01-01 12:10:09"].map(moment);
+        assert_eq!(found.ends, Some(ends.into()));
     }
 
     #[test]
@@ -316,6 +315,8 @@ pub mod tests {
 
     #[test]
     fn nothing() {
-        assert!(Coverage::new(&Heard::default()).is_none());
+        let found = Coverage::new(&Heard::default());
+        assert_eq!((found.ends, found.whole.seconds()), (None, 0));
+        assert_eq!((found.seconds_heard(), found.seconds_missing()), (0, 0));
     }
 }

@@ -61,17 +61,20 @@ fn outside(svg: &mut Svg, band: Band, x: u64) {
     marks::outside(svg, band.area(x, SAMPLE));
 }
 
-fn entries(coverage: &Coverage, unit: &Unit) -> Vec<(Draw, &'static str)> {
+fn entries(racks: &[Coverage], unit: &Unit) -> Vec<(Draw, &'static str)> {
     let is_coarse = unit.column > 1;
     let is_narrow = !unit.has_wide_columns();
-    let has_leap = !coverage.leap_seconds.is_empty();
+    let has_leap = racks
+        .iter()
+        .any(|coverage| !coverage.leap_seconds.is_empty());
+    let has_again = racks.iter().any(|coverage| coverage.seconds_again() > 0);
     let every: [(bool, Draw, &str); 9] = [
         (true, heard, "heard"),
         (true, missing, "missing"),
         (is_narrow, missing_narrow, "missing, one column"),
         (is_coarse, mixed, "one column, part heard and part missing"),
-        (has_dense(coverage, unit), dense, "many gaps"),
-        (coverage.seconds_again() > 0, again, "heard more than once"),
+        (has_dense(racks, unit), dense, "many gaps"),
+        (has_again, again, "heard more than once"),
         (has_leap && !is_narrow, leap_column, "leap second heard"),
         (
             has_leap && is_narrow,
@@ -89,15 +92,16 @@ fn entries(coverage: &Coverage, unit: &Unit) -> Vec<(Draw, &'static str)> {
 }
 
 /// Draws it from y on, and returns where it ends.
-pub fn draw(svg: &mut Svg, coverage: &Coverage, unit: &Unit, y: u64) -> u64 {
+pub fn draw(svg: &mut Svg, racks: &[Coverage], unit: &Unit, y: u64) -> u64 {
     let (mut x, mut y) = (LEFT, y);
     svg.open("id=\"legend\"", "");
-    for (draw, words) in entries(coverage, unit) {
+    for (draw, words) in entries(racks, unit) {
         let needed = SAMPLE + 12 + width(words, FONT);
         if x > LEFT && x + needed > RIGHT {
             (x, y) = (LEFT, y + LINE);
         }
         let band = Band {
+            x,
             y,
             height: HEIGHT,
             above: 6,

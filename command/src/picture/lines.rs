@@ -1,4 +1,4 @@
-//! The lines of the grid: those in which something was heard, and one for several on which nothing was.
+//! The lines of the grid: those in which something was heard of some rack, and one for several on which nothing was.
 
 use crate::moment::DAY;
 use crate::picture::coverage::{Coverage, Span};
@@ -15,12 +15,12 @@ pub enum Line {
 }
 
 /// The lines in which something was heard, as parts from a first to a last one with others between the parts.
-pub fn touched(coverage: &Coverage, seconds: u64) -> Vec<(u64, u64)> {
-    let heard = coverage.heard.iter();
+pub fn touched(racks: &[Coverage], seconds: u64) -> Vec<(u64, u64)> {
+    let heard = racks.iter().flat_map(|coverage| &coverage.heard);
     let mut every: Vec<(u64, u64)> = heard
         .map(|span| (span.from / seconds, (span.to - 1) / seconds))
         .collect();
-    let leap = coverage.leap_seconds.iter();
+    let leap = racks.iter().flat_map(|coverage| &coverage.leap_seconds);
     every.extend(leap.map(|leap| {
         let line = leap.number_before() / seconds;
         (line, line)
@@ -37,11 +37,11 @@ pub fn touched(coverage: &Coverage, seconds: u64) -> Vec<(u64, u64)> {
 }
 
 /// All lines, in order.
-pub fn lines(coverage: &Coverage, unit: &Unit) -> Vec<Line> {
+pub fn lines(racks: &[Coverage], unit: &Unit) -> Vec<Line> {
     let mut lines = Vec::new();
     let mut behind = None;
     let mut day = None;
-    for (first, last) in touched(coverage, unit.seconds) {
+    for (first, last) in touched(racks, unit.seconds) {
         // one line alone is drawn as it is
         let from = match behind.map(|behind| (behind, first - behind)) {
             Some((alone, 1)) => alone,
@@ -174,13 +174,15 @@ pub fn again(coverage: &Coverage, line: u64, unit: &Unit) -> Vec<(u64, u64, u64)
 
 #[cfg(test)]
 mod tests {
+    use std::slice::from_ref;
+
     use super::*;
     use crate::moment::tests::moment;
     use crate::picture::coverage::tests::log;
     use crate::picture::unit::UNITS;
 
     fn coverage(runs: &[&str], leap: &[&str]) -> Coverage {
-        Coverage::new(&log(runs, leap)).unwrap()
+        Coverage::new(&log(runs, leap))
     }
 
     fn line(text: &str, unit: &Unit) -> u64 {
@@ -198,14 +200,24 @@ mod tests {
             lines: 2,
         };
         let wanted = [day, Line::Time(noon), empty, Line::Time(noon + 3)];
-        assert_eq!(lines(&found, minute), wanted);
+        assert_eq!(lines(from_ref(&found), minute), wanted);
         // one line alone is drawn, and none is left out
         let found = coverage(&["12:00:00 12:00:09", "12:02:00 12:02:00"], &[]);
         let wanted = [0, 1, 2].map(|more| Line::Time(noon + more));
-        assert_eq!(lines(&found, minute)[1..], wanted);
+        assert_eq!(lines(from_ref(&found), minute)[1..], wanted);
+        // what another rack heard is drawn of this one too
+        let other = coverage(&["12:01:30 12:01:30", "12:05:00 12:05:00"], &[]);
+        let gone_by = coverage(&["12:00:00 12:00:09", "12:02:00 12:02:00"], &[]);
+        let both = lines(&[gone_by, other], minute);
+        let empty = Line::Gathered {
+            first: noon + 3,
+            lines: 2,
+        };
+        assert_eq!(both[1..4], wanted);
+        assert_eq!(both[4..], [empty, Line::Time(noon + 5)]);
         // a second 60 has a line although no other second of it was heard
         let found = coverage(&["12:00:60 12:00:60", "12:01:09 12:01:09"], &["12:00:60"]);
-        assert_eq!(lines(&found, minute)[1..], wanted[..2]);
+        assert_eq!(lines(from_ref(&found), minute)[1..], wanted[..2]);
     }
 
     #[test]
@@ -213,7 +225,7 @@ mod tests {
         let [minute, .., days] = &UNITS;
         let mut heard = log(&["23:58:00 23:59:59"], &[]);
         heard.runs[0].last = crate::moment::tests::second("2024-01-02 00:00:00");
-        let found = Coverage::new(&heard).unwrap();
+        let found = Coverage::new(&heard);
         let last = line("23:59:00", minute);
         let wanted = [
             Line::Date(16_071),
@@ -222,8 +234,11 @@ mod tests {
             Line::Date(16_072),
             Line::Time(last + 1),
         ];
-        assert_eq!(lines(&found, minute), wanted);
-        assert_eq!(lines(&found, days), [16_071, 16_072].map(Line::Time));
+        assert_eq!(lines(from_ref(&found), minute), wanted);
+        assert_eq!(
+            lines(from_ref(&found), days),
+            [16_071, 16_072].map(Line::Time)
+        );
     }
 
     fn told(pieces: &[Piece]) -> Vec<(Kind, u64, u64, u64, u64)> {
@@ -284,7 +299,7 @@ mod tests {
         let found = coverage(&runs, &[]);
         for unit in &UNITS {
             let (mut heard, mut missing, mut twice) = (0, 0, 0);
-            for line in lines(&found, unit) {
+            for line in lines(from_ref(&found), unit) {
                 match line {
                     Line::Date(_) => {}
                     Line::Gathered { lines, .. } => missing += lines * unit.seconds,

@@ -20,6 +20,7 @@ const LOW: u64 = 12;
 /// A band of a line, with some room above it.
 #[derive(Clone, Copy)]
 pub struct Band {
+    pub x: u64,
     pub y: u64,
     pub height: u64,
     pub above: u64,

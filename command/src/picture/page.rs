@@ -9,21 +9,38 @@ pub const TITLE: u64 = 38;
 pub const TOTALS: u64 = 28;
 pub const TEXT: u64 = 22;
 
-/// The page, and where its text begins and ends.
-pub const WIDTH: u64 = 1650;
+/// The page of one rack, and where its text begins and ends.
+const WIDTH: u64 = 1650;
 pub const LEFT: u64 = 34;
 pub const RIGHT: u64 = WIDTH - LEFT;
 
-/// Where bands begin and end, and their labels end.
-pub const BAND_X: u64 = 180;
-pub const BAND_END: u64 = BAND_X + LINE_WIDTH;
-pub const LABEL_END: u64 = BAND_X - 12;
-/// Behind a band: the column of second 60, the pointer to a line with missing seconds, the sums.
-pub const LEAP_X: u64 = BAND_END + 6;
+/// Where labels end; the bands of one rack begin behind them, those of two behind the racks' names.
+pub const LABEL_END: u64 = 168;
+pub const BESIDE: u64 = 12;
+const NAMES: u64 = 84;
+
+/// From a band's beginning: the column of second 60, the pointer to a line with missing seconds, the sums.
+pub const LEAP: u64 = LINE_WIDTH + 6;
 pub const LEAP_WIDTH: u64 = 20;
-pub const POINTER_X: u64 = BAND_END + 34;
-pub const MISSING_END: u64 = BAND_END + 134;
-pub const AGAIN_END: u64 = BAND_END + 236;
+pub const POINTER: u64 = LINE_WIDTH + 34;
+pub const MISSING_END: u64 = LINE_WIDTH + 134;
+pub const AGAIN_END: u64 = LINE_WIDTH + 236;
+
+fn names(racks: usize) -> u64 {
+    match racks {
+        1 => 0,
+        _ => NAMES,
+    }
+}
+
+/// Where bands begin.
+pub fn band_x(racks: usize) -> u64 {
+    LABEL_END + BESIDE + names(racks)
+}
+
+pub fn width(racks: usize) -> u64 {
+    WIDTH + names(racks)
+}
 
 pub const FONT: Font = Font {
     size: TEXT,

@@ -45,6 +45,8 @@ impl Font {
 #[derive(Default)]
 pub struct Svg {
     pub text: String,
+    /// what each title begins with: the rack, where there are two
+    pub lead: String,
 }
 
 impl Svg {
@@ -57,7 +59,8 @@ impl Svg {
     pub fn open(&mut self, attributes: &str, title: &str) {
         self.line(format_args!("<g {attributes}>"));
         if !title.is_empty() {
-            self.line(format_args!("<title>{}</title>", escaped(title)));
+            let title = escaped(&format!("{}{title}", self.lead));
+            self.line(format_args!("<title>{title}</title>"));
         }
     }
 

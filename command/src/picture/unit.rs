@@ -7,9 +7,12 @@ use crate::picture::page::LEAP_WIDTH;
 
 /// How wide a whole line is, in pixels.
 pub const LINE_WIDTH: u64 = 1200;
-/// So many lines are a page; a gathered line or a date is as high as three of them.
-const PAGE: u64 = 210;
-pub const OTHER_LINE: u64 = 3;
+/// How high the lines of a page are, and of each rack a gathered line or a date, in pixels.
+const PAGE: u64 = 1680;
+const OTHER_LINE: u64 = 24;
+/// The lowest line of one rack; and of two, where each has its name and its sums beside it.
+const LOWEST: u64 = 8;
+const LOWEST_OF_TWO: u64 = 22;
 
 pub struct Unit {
     pub seconds: u64,
@@ -60,14 +63,24 @@ pub const UNITS: [Unit; 4] = [
     },
 ];
 
+/// How low the line of a rack may be.
+pub fn lowest(racks: usize) -> u64 {
+    match racks {
+        1 => LOWEST,
+        _ => LOWEST_OF_TWO,
+    }
+}
+
 impl Unit {
-    /// The finest unit with which the lines are a page.
-    pub fn of(coverage: &Coverage) -> &'static Unit {
-        let days = lines_of(&touched(coverage, DAY));
+    /// The finest unit with which the lines of all racks are a page.
+    pub fn of(racks: &[Coverage]) -> &'static Unit {
+        let days = lines_of(&touched(racks, DAY));
+        let count = racks.len() as u64;
+        let (line, other) = (lowest(racks.len()) * count, OTHER_LINE * count);
         let is_page = |unit: &&Unit| {
-            let parts = touched(coverage, unit.seconds);
+            let parts = touched(racks, unit.seconds);
             let others = parts.len().saturating_sub(1) as u64 + days;
-            lines_of(&parts) + OTHER_LINE * others <= PAGE
+            lines_of(&parts) * line + other * others <= PAGE
         };
         let [.., last] = &UNITS;
         UNITS.iter().find(is_page).unwrap_or(last)
@@ -135,7 +148,7 @@ mod tests {
     }
 
     fn chosen(runs: &[&str]) -> u64 {
-        Unit::of(&Coverage::new(&log(runs, &[])).unwrap()).seconds
+        Unit::of(&[Coverage::new(&log(runs, &[]))]).seconds
     }
 
     #[test]
@@ -148,12 +161,42 @@ mod tests {
         assert_eq!(chosen(&["00:00:00 00:59:59", "22:00:00 22:59:59"]), MINUTE);
     }
 
+    /// Two racks have a page together, whichever of them is the longer one.
+    #[test]
+    fn two_racks_fit_a_page() {
+        let chosen = |first: &str, second: &str| {
+            let racks = [first, second].map(|runs| Coverage::new(&log(&[runs], &[])));
+            Unit::of(&racks).seconds
+        };
+        let short = "12:00:00 12:00:00";
+        assert_eq!(chosen(short, short), MINUTE);
+        assert_eq!(chosen("12:00:00 12:29:59", short), MINUTE);
+        assert_eq!(
+            chosen("12:00:00 12:29:59", "11:40:00 12:10:00"),
+            10 * MINUTE
+        );
+        assert_eq!(chosen("12:00:00 17:59:59", short), 10 * MINUTE);
+        assert_eq!(chosen(short, "00:00:00 23:59:59"), HOUR);
+    }
+
+    /// What is gathered between the lines needs room for each rack.
+    #[test]
+    fn gathered_lines_of_two_racks_fit_a_page() {
+        let chosen = |count: u64| {
+            let each = (0..count).map(|n| format!("12:{:02}:00 12:{:02}:00", 3 * n, 3 * n));
+            let runs: Vec<String> = each.collect();
+            let runs: Vec<&str> = runs.iter().map(String::as_str).collect();
+            Unit::of(&[&runs, &runs].map(|runs| Coverage::new(&log(runs, &[])))).seconds
+        };
+        assert_eq!([18, 19, 20].map(chosen), [60, 600, 600]);
+    }
+
     #[test]
     fn longer_logs() {
         let run = |last: &str| {
             let mut heard = log(&["00:00:00 23:59:59"], &[]);
             heard.runs[0].last = crate::moment::tests::second(last);
-            Unit::of(&Coverage::new(&heard).unwrap()).seconds
+            Unit::of(&[Coverage::new(&heard)]).seconds
         };
         assert_eq!(run("2024-01-02 09:00:00"), 10 * MINUTE);
         assert_eq!(run("2024-01-03 00:00:00"), HOUR);

@@ -1,10 +1,14 @@
 //! What the picture says in words.
 
 use crate::picture::coverage::{Coverage, Span};
-use crate::picture::Subject;
+use crate::picture::together::Together;
+use crate::picture::Rack;
 
 /// What a client has to know of the times, and what the picture cannot know.
 pub const FOOT: &str = "Times are as the clock sent them. Where the clock tells local time, the hour of a change to or from summer time shows as missing or as heard twice. A leap second that was not heard is not counted as missing. Before the first second and behind the last nothing is known.";
+
+/// Of two racks besides.
+pub const FOOT_OF_TWO: &str = "Both racks stand on one time axis, by the times that their clocks sent: where one clock tells local time and the other UTC, a second that both heard stands in two places.";
 
 /// So many gaps are listed for those who cannot see the picture.
 const LISTED: usize = 20;
@@ -40,6 +44,9 @@ fn percent(heard: u64, whole: u64) -> String {
 }
 
 pub fn totals(coverage: &Coverage) -> String {
+    if coverage.ends.is_none() {
+        return "No second was heard".to_string();
+    }
     let (heard, missing) = (coverage.seconds_heard(), coverage.seconds_missing());
     let whole = heard + missing;
     let share = percent(heard, whole);
@@ -55,13 +62,13 @@ pub fn totals(coverage: &Coverage) -> String {
     )
 }
 
-/// The lines below the title but for the totals.
-pub fn facts(subject: &Subject, coverage: &Coverage) -> Vec<String> {
-    let Coverage { first, last, .. } = coverage;
-    let mut facts = vec![format!(
-        "Time strings of form {}, from {first} to {last}",
-        subject.form
-    )];
+/// The lines on a rack but for the totals.
+pub fn facts(rack: &Rack, coverage: &Coverage) -> Vec<String> {
+    let times = coverage
+        .ends
+        .map(|(first, last)| format!(", from {first} to {last}"));
+    let times = times.unwrap_or_default();
+    let mut facts = vec![format!("Time strings of form {}{times}", rack.form)];
     let again = coverage.seconds_again();
     if again > 0 {
         facts.push(format!("{} heard more than once", counted(again, "second")));
@@ -78,8 +85,8 @@ pub fn facts(subject: &Subject, coverage: &Coverage) -> Vec<String> {
         };
         facts.push(format!("Leap second heard: {}{more}", first.moment()));
     }
-    if subject.passed_over > 0 {
-        let strings = counted(subject.passed_over, "string");
+    if rack.passed_over > 0 {
+        let strings = counted(rack.passed_over, "string");
         facts.push(format!(
             "{strings} passed over: without a full date no second is told"
         ));
@@ -87,9 +94,40 @@ pub fn facts(subject: &Subject, coverage: &Coverage) -> Vec<String> {
     facts
 }
 
+/// What two racks have in common, where both heard something.
+pub fn together(racks: &[Coverage]) -> Option<String> {
+    let Together {
+        both,
+        alone: [first, second],
+        missing,
+    } = Together::of(racks)?;
+    let [both, first, second, missing] = [both, first, second, missing].map(grouped);
+    Some(format!("Seconds that both racks heard: {both}; rack 0 alone: {first}; rack 1 alone: {second}; missing in both: {missing}"))
+}
+
+/// The heading of one of two racks.
+pub fn heading(number: usize, rack: &Rack) -> String {
+    format!("Rack {number}: {}", rack.name)
+}
+
 /// The picture for those who cannot see it.
-pub fn description(subject: &Subject, coverage: &Coverage) -> String {
-    let facts = facts(subject, coverage).join(". ");
+pub fn description(racks: &[Rack], coverages: &[Coverage]) -> String {
+    if let ([rack], [coverage]) = (racks, coverages) {
+        return description_of(rack, coverage);
+    }
+    let each = racks.iter().zip(coverages).enumerate();
+    let mut parts: Vec<String> = each
+        .map(|(number, (rack, coverage))| {
+            let told = description_of(rack, coverage);
+            format!("{}. {told}", heading(number, rack))
+        })
+        .collect();
+    parts.extend(together(coverages));
+    parts.join(" ")
+}
+
+fn description_of(rack: &Rack, coverage: &Coverage) -> String {
+    let facts = facts(rack, coverage).join(". ");
     let mut out = format!("{facts}. {}.", totals(coverage));
     let told = |gap: &Span| format!("{} ({} s)", gap.words(), grouped(gap.seconds()));
     let gaps: Vec<String> = coverage.missing.iter().take(LISTED).map(told).collect();
@@ -140,7 +178,7 @@ mod tests {
     fn sentences() {
         let told = |runs: &[&str], leap: &[&str]| {
             let heard = log(runs, leap);
-            totals(&Coverage::new(&heard).unwrap())
+            totals(&Coverage::new(&heard))
         };
         assert_eq!(
             told(&["12:00:00 12:29:59"], &[]),
@@ -167,13 +205,13 @@ mod tests {
             ],
             &[],
         );
-        let subject = Subject {
-            title: "a",
+        let rack = Rack {
+            name: "a",
             form: "racal",
             heard: &heard,
             passed_over: 0,
         };
-        let told = facts(&subject, &Coverage::new(&heard).unwrap());
+        let told = facts(&rack, &Coverage::new(&heard));
         assert_eq!(told[1], "2 seconds heard more than once");
         assert!(told[2].starts_with("The time went back 1 time: what was heard at least once"));
         assert_eq!(told.len(), 3);
@@ -186,13 +224,13 @@ mod tests {
             .collect();
         let runs: Vec<&str> = minutes.iter().map(String::as_str).collect();
         let heard = log(&runs, &[]);
-        let subject = Subject {
-            title: "a",
+        let rack = Rack {
+            name: "a",
             form: "racal",
             heard: &heard,
             passed_over: 1,
         };
-        let told = description(&subject, &Coverage::new(&heard).unwrap());
+        let told = description(&[rack], &[Coverage::new(&heard)]);
         assert!(told.starts_with(
             "Time strings of form racal, from 2024-01-01 12:00:00 to 2024-01-01 12:22:58. 1 string passed over"
         ));
