@@ -240,7 +240,7 @@ class Trial:
         self.same((read_again(5, data), refusal), (data, "0"), "the second line of vectors")
         files = [path.read_text(encoding="utf-8") for path in (ROOT / "vectors").glob("*.txt")]
         every = [line for text in files for line in text.splitlines() if line and line[0] != "#"]
-        self.same(re.findall(r"(\d+) lines (?:of `vectors/`|to begin)", self.text), [str(len(every))] * 2, "how many vectors there are")
+        self.same(re.findall(r"([\d,]+) lines (?:of `vectors/`|to begin)", self.text), [f"{len(every):,}"] * 2, "how many vectors there are")
 
     def test_links(self):
         links = re.findall(r"\]\(([^)]*)\)", self.text)
