@@ -5,10 +5,10 @@ use Rattle.record.specs.declared.Record.{Record}
 use Rattle.runs.specs.declared.Run.{Run}
 use Rattle.runs.specs.Afresh.{runsOf}
 use Rattle.racks.specs.declared.Row.{Row}
-use Rattle.racks.specs.Calls.{Call, Table, after, afterAll, empty, notRefused, ownOf, recordsOf, secondsOf, told, toldTo}
+use Rattle.racks.specs.Calls.{Call, Table, after, afterAll, call, empty, notRefused, ownOf, recordsOf, secondsOf, told, toldTo}
 use Rattle.racks.specs.Rows.{isRefusal, isTable}
 use Rattle.racks.proofs.Alone.{alone-afresh, aloneBy, aloneKept, aloneRuns, aloneTold}
-use Rattle.racks.proofs.Tables.{Good, call, called, good-empty, leaves, tells}
+use Rattle.racks.proofs.Tables.{Good, called, good-empty, leaves, tells}
 
 -- what a rack is told, its rows and its records not refused are those of the rack alone
 record ByOwn (k : ℕ) (t : Table) (cs : List Call) : Type 0 where

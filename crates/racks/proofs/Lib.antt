@@ -1,5 +1,6 @@
 pub mod Changes
 pub mod Own
+pub mod Put
 pub mod Surveys
 pub mod Stored
 pub mod Answers

@@ -11,15 +11,13 @@ use Rattle.runs.specs.Rows.{isRow, longer, single}
 use Rattle.runs.proofs.Grown.{follows}
 use Rattle.runs.proofs.Possible.{NewestPossible, Possible, newest-of, possible-row}
 use Rattle.racks.specs.declared.Row.{Row}
-use Rattle.racks.specs.Calls.{Call, Table, after, empty, ownOf, told}
+use Rattle.racks.specs.Calls.{Call, Table, after, call, empty, ownOf, told}
 use Rattle.racks.specs.Rows.{After, addedTo, isOf, isRack, isTable, newest, newestAt, others, own, withSecond, withTold}
 use Rattle.racks.proofs.Alone.{Alone, Rack, alone-full, alone-join, alone-open, aloneBy, aloneOn, aloneWith, rack-by}
 use Rattle.racks.proofs.Answers.{added-none, added-told, with-full, with-join, with-open}
-use Rattle.racks.proofs.Own.{count, ends, follows-some, joined-own, newest-at, opened-other, opened-others, opened-own, other-own, others-set}
+use Rattle.racks.proofs.Own.{count, ends, follows-some, newest-at}
+use Rattle.racks.proofs.Put.{joined-own, opened-other, opened-others, opened-own, other-own, others-set}
 use Rattle.racks.proofs.Stored.{Counted, counted, room}
-
-abbrev pub call : ℕ → Record → Call
-call k r = record { rack = k; given = r }
 
 abbrev tableOf : After → Table
 tableOf a = record { rows = a .rows; used = a .answer .used }

@@ -36,6 +36,9 @@ pub record Call : Type 0 where
   pub rack : ℕ
   pub given : Record
 
+abbrev pub call : ℕ → Record → Call
+call k r = record { rack = k; given = r }
+
 -- what a call on the table answers, and the table that it leaves
 abbrev pub told : Table → Call → Outcome
 told t c = addedTo (t .rows) (t .used) (c .rack) (c .given) .answer .outcome
@@ -102,7 +105,7 @@ openings t (c ∷ cs) = opensBy (told t c) c ++ openings (after t c) cs
 
 -- "the case of rack 0 alone"
 abbrev pub ofRackZero : List Record → List Call
-ofRackZero rs = map (λ r. record { rack = 0; given = r }) rs
+ofRackZero rs = map (call 0) rs
 
 abbrev pub rowOfZero : Run → Row
 rowOfZero n = record { rack = 0; run = n }

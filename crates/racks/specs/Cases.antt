@@ -11,7 +11,7 @@ use Rattle.record.specs.declared.Record.{Record}
 use Rattle.runs.specs.declared.second.Second.{Second}
 use Rattle.runs.specs.Cases.{at}
 use Rattle.racks.specs.declared.Row.{Row}
-use Rattle.racks.specs.Calls.{Call, afterAll, answers, empty, inUse}
+use Rattle.racks.specs.Calls.{Call, afterAll, answers, call, empty, inUse}
 use Rattle.racks.specs.Rows.{noRow, outcomeNumber}
 
 -- a good record of a date and a time
@@ -35,32 +35,29 @@ recordAt d h m s = record {
   lsp = emptyRecord .lsp;
 }
 
-abbrev of : ℕ → Record → Call
-of k r = record { rack = k; given = r }
-
 abbrev row : ℕ → Second → Second → ℕ → Row
 row k a b n = record { rack = k; run = record { first = a; last = b; count = n } }
 
 -- the night of the leap second of 2016: rack 0 hears it, rack 1 leaves it out; a rack 2, a record without a full date, one of no such date and a repeat are among them
 abbrev pub night : List Call
 night =
-    of 0 (recordAt (dateIs.Full 16 12 31) 23 59 59)
-    ∷ of 1 (recordAt (dateIs.Full 16 12 31) 23 59 58)
-    ∷ of 0 (recordAt (dateIs.Full 16 12 31) 23 59 60)
-    ∷ of 2 (recordAt (dateIs.Full 16 12 31) 23 59 60)
-    ∷ of 1 (recordAt (dateIs.Full 16 12 31) 23 59 59)
-    ∷ of 1 (recordAt (dateIs.DayOfYear 1) 0 0 0)
-    ∷ of 0 (recordAt (dateIs.Full 17 1 1) 0 0 0)
-    ∷ of 0 (recordAt (dateIs.Full 17 2 29) 0 0 1)
-    ∷ of 1 (recordAt (dateIs.Full 17 1 1) 0 0 0)
-    ∷ of 0 (recordAt (dateIs.Full 17 1 1) 0 0 2)
-    ∷ of 1 (recordAt (dateIs.Full 17 1 1) 0 0 1)
-    ∷ of 1 (recordAt (dateIs.Full 17 1 1) 0 0 1)
+    call 0 (recordAt (dateIs.Full 16 12 31) 23 59 59)
+    ∷ call 1 (recordAt (dateIs.Full 16 12 31) 23 59 58)
+    ∷ call 0 (recordAt (dateIs.Full 16 12 31) 23 59 60)
+    ∷ call 2 (recordAt (dateIs.Full 16 12 31) 23 59 60)
+    ∷ call 1 (recordAt (dateIs.Full 16 12 31) 23 59 59)
+    ∷ call 1 (recordAt (dateIs.DayOfYear 1) 0 0 0)
+    ∷ call 0 (recordAt (dateIs.Full 17 1 1) 0 0 0)
+    ∷ call 0 (recordAt (dateIs.Full 17 2 29) 0 0 1)
+    ∷ call 1 (recordAt (dateIs.Full 17 1 1) 0 0 0)
+    ∷ call 0 (recordAt (dateIs.Full 17 1 1) 0 0 2)
+    ∷ call 1 (recordAt (dateIs.Full 17 1 1) 0 0 1)
+    ∷ call 1 (recordAt (dateIs.Full 17 1 1) 0 0 1)
     ∷ []
 
 -- 33 records of one rack that follow none of one another, and one of the other rack
 abbrev minutes : ℕ → List ℕ → List Call
-minutes k ms = map (λ m. of k (recordAt (dateIs.Full 24 2 29) 12 m 0)) ms
+minutes k ms = map (λ m. call k (recordAt (dateIs.Full 24 2 29) 12 m 0)) ms
 
 abbrev pub full : List Call
 full =

@@ -8,7 +8,7 @@ use Rattle.record.specs.declared.Record.{Record}
 use Rattle.runs.specs.Afresh.{runsOf}
 use Rattle.racks.specs.declared.Outcome.the-variants as outcome
 use Rattle.racks.specs.declared.Row.{Row}
-use Rattle.racks.specs.Calls.{Call, Table, after, afterAll, empty, inUse, notRefused, ofRackZero, openingOf, openings, ownOf, recordsOf, rowOfZero, secondsOf, told, toldTo}
+use Rattle.racks.specs.Calls.{Call, Table, after, afterAll, call, empty, inUse, notRefused, ofRackZero, openingOf, openings, ownOf, recordsOf, rowOfZero, secondsOf, told, toldTo}
 use Rattle.racks.specs.Rows.{addedTo, isRefusal, isTable, unchanged}
 
 pub record Racks : Type 0 where
@@ -18,8 +18,7 @@ pub record Racks : Type 0 where
       → (toldTo k (empty rows) cs ≡ toldTo k (empty rows′) ds) × (ownOf k (afterAll (empty rows) cs) ≡ ownOf k (afterAll (empty rows′) ds))
   -- in any table that is not refused a rack's own rows alone say what it is told and what its rows are afterwards
   pub own-alone : (k : ℕ) → k ≤ 1 → (t u : Table) → isTable (t .rows) (t .used) ≡ true → isTable (u .rows) (u .used) ≡ true → ownOf k t ≡ ownOf k u → (r : Record)
-      → (told t (record { rack = k; given = r }) ≡ told u (record { rack = k; given = r }))
-      × (ownOf k (after t (record { rack = k; given = r })) ≡ ownOf k (after u (record { rack = k; given = r })))
+      → (told t (call k r) ≡ told u (call k r)) × (ownOf k (after t (call k r)) ≡ ownOf k (after u (call k r)))
   -- W-206: "From an empty table that only these calls write, the rows must equal those worked out afresh from the records not refused.": each rack's
   pub afresh : (k : ℕ) → k ≤ 1 → (rows : List Row) → length rows ≡ 64 → (cs : List Call)
       → ownOf k (afterAll (empty rows) cs) ≡ runsOf (secondsOf (recordsOf k (notRefused (empty rows) cs)))
