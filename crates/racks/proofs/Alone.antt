@@ -1,21 +1,18 @@
--- A rack alone, by the list of its runs: what its records do to it, and that its runs are those worked out afresh. The table is not spoken of.
-use Rattle.cond.proofs.Kit.{[], _++_, _∷_, _≡_, _≤_, ap, append-assoc, append-nil, arith, Bool, false, length, length-append, List, ltb, ltb-true, refl, suc, true}
+-- A rack alone, by the list of its runs: what its records do to it. The table is not spoken of.
+use Rattle.cond.proofs.Kit.{[], _++_, _∷_, _≡_, _≤_, ap, arith, Bool, false, length, length-append, List, ltb, ltb-true, refl, suc, true}
 use Rattle.cond.specs.Pick.{pick}
 use Rattle.record.specs.declared.Record.{Record}
 use Rattle.runs.specs.declared.Run.{Run}
 use Rattle.runs.specs.declared.heard.SecondIn.{SecondIn}
 use Rattle.runs.specs.declared.heard.SecondIn.the-variants as second
 use Rattle.runs.specs.declared.second.Second.{Second}
-use Rattle.runs.specs.Afresh.{runsOf}
 use Rattle.runs.specs.Heard.{secondIn}
 use Rattle.runs.specs.Rows.{single}
 use Rattle.runs.specs.Seconds.{isSecond}
-use Rattle.runs.proofs.Grown.{extended, follows, runs-snoc}
+use Rattle.runs.proofs.Grown.{extended, follows}
 use Rattle.runs.proofs.Possible.{NewestPossible, newest-extended, newest-snoc, single-possible, told-second}
 use Rattle.racks.specs.declared.Outcome.{Outcome}
 use Rattle.racks.specs.declared.Outcome.the-variants as outcome
-use Rattle.racks.specs.Calls.{secondsOf}
-use Rattle.racks.specs.Rows.{isRefusal}
 
 -- what a rack is told, and its runs afterwards
 pub record Alone : Type 0 where
@@ -79,26 +76,3 @@ aloneTold ns (r ∷ rs) = aloneBy ns r .told ∷ aloneTold (aloneBy ns r .runs) 
 abbrev pub aloneRuns : List Run → List Record → List Run
 aloneRuns ns [] = ns
 aloneRuns ns (r ∷ rs) = aloneRuns (aloneBy ns r .runs) rs
-
-abbrev pub aloneKept : List Run → List Record → List Record
-aloneKept ns [] = []
-aloneKept ns (r ∷ rs) = pick (isRefusal (aloneBy ns r .told)) (aloneKept (aloneBy ns r .runs) rs) (r ∷ aloneKept (aloneBy ns r .runs) rs)
-
--- a record that is taken is one more second of the list that the runs are of
-module _ (ss : List Second) (r : Record) (rs : List Record) (ih : (us : List Second) (ms : List Run) → ms ≡ runsOf us → aloneRuns ms rs ≡ runsOf (us ++ secondsOf (aloneKept ms rs))) where
-  afresh-with : (s : Second) → secondIn r ≡ second.Told s → (j l : Bool) → follows (runsOf ss) s ≡ j → ltb (length (runsOf ss)) 32 ≡ l
-      → aloneRuns (runsOf ss) (r ∷ rs) ≡ runsOf (ss ++ secondsOf (aloneKept (runsOf ss) (r ∷ rs)))
-  afresh-with s e true l p q =
-      rw (e, alone-join (runsOf ss) s p, e, ← append-assoc ss (s ∷ []) (secondsOf (aloneKept (extended (runsOf ss) s) rs))) (ih (ss ++ (s ∷ [])) (extended (runsOf ss) s) (rw (runs-snoc ss s, p)))
-  afresh-with s e false true p q =
-      rw (e, alone-open (runsOf ss) s p q, e, ← append-assoc ss (s ∷ []) (secondsOf (aloneKept (runsOf ss ++ (single s ∷ [])) rs)))
-      (ih (ss ++ (s ∷ [])) (runsOf ss ++ (single s ∷ [])) (rw (runs-snoc ss s, p)))
-  afresh-with s e false false p q = rw (e, alone-full (runsOf ss) s p q) (ih ss (runsOf ss) refl)
-
-  afresh-by : (t : SecondIn) → secondIn r ≡ t → aloneRuns (runsOf ss) (r ∷ rs) ≡ runsOf (ss ++ secondsOf (aloneKept (runsOf ss) (r ∷ rs)))
-  afresh-by (second.Told s) e = afresh-with s e _ _ refl refl
-  afresh-by second.NotTold e = rw e (ih ss (runsOf ss) refl)
-
-pub alone-afresh : (ss : List Second) (ns : List Run) (rs : List Record) → ns ≡ runsOf ss → aloneRuns ns rs ≡ runsOf (ss ++ secondsOf (aloneKept ns rs))
-alone-afresh ss ns [] e = rw append-nil e
-alone-afresh ss ns (r ∷ rs) e = rw e (afresh-by ss r rs (λ us ms k. alone-afresh us ms rs k) _ refl)

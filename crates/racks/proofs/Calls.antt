@@ -1,30 +1,17 @@
--- Calls one after the other, from a table that only these calls wrote: what a rack is told, its rows, and its records not refused depend on its own records alone.
+-- Calls one after the other, from a table that only these calls wrote: what a rack is told and its rows depend on its own records alone.
 use Rattle.cond.proofs.Kit.{[], _∙_, _∷_, _≡_, _≤_, ap, Bool, eqb, eqb-false, eqb-true, false, length, List, refl, subst, sym, true, ℕ}
-use Rattle.cond.specs.Pick.{pick}
 use Rattle.record.specs.declared.Record.{Record}
 use Rattle.runs.specs.declared.Run.{Run}
-use Rattle.runs.specs.Afresh.{runsOf}
 use Rattle.racks.specs.declared.Row.{Row}
-use Rattle.racks.specs.Calls.{Call, Table, after, afterAll, call, empty, notRefused, ownOf, recordsOf, secondsOf, told, toldTo}
-use Rattle.racks.specs.Rows.{isRefusal, isTable}
-use Rattle.racks.proofs.Alone.{alone-afresh, aloneBy, aloneKept, aloneRuns, aloneTold}
+use Rattle.racks.specs.Calls.{Call, Table, after, afterAll, call, empty, ownOf, recordsOf, told, toldTo}
+use Rattle.racks.specs.Rows.{isTable}
+use Rattle.racks.proofs.Alone.{aloneBy, aloneRuns, aloneTold}
 use Rattle.racks.proofs.Tables.{Good, called, good-empty, leaves, tells}
 
--- what a rack is told, its rows and its records not refused are those of the rack alone
+-- what a rack is told and its rows are those of the rack alone
 record ByOwn (k : ℕ) (t : Table) (cs : List Call) : Type 0 where
   pub told-is : toldTo k t cs ≡ aloneTold (ownOf k t) (recordsOf k cs)
   pub own-is : ownOf k (afterAll t cs) ≡ aloneRuns (ownOf k t) (recordsOf k cs)
-  pub kept-is : recordsOf k (notRefused t cs) ≡ aloneKept (ownOf k t) (recordsOf k cs)
-
--- a call of another rack
-kept-other : (k : ℕ) (c : Call) (b : Bool) (cs : List Call) → eqb (c .rack) k ≡ false → recordsOf k (pick b cs (c ∷ cs)) ≡ recordsOf k cs
-kept-other k c true cs h = refl
-kept-other k c false cs h = rw h
-
--- a call of this one
-kept-own : (k : ℕ) (c : Call) (b : Bool) (cs : List Call) → eqb (c .rack) k ≡ true → recordsOf k (pick b cs (c ∷ cs)) ≡ pick b (recordsOf k cs) (c .given ∷ recordsOf k cs)
-kept-own k c true cs h = refl
-kept-own k c false cs h = rw h
 
 by-call : (k : ℕ) (t : Table) (c : Call) (cs : List Call) → k ≤ 1 → Good t → (b : Bool) → eqb (c .rack) k ≡ b → ByOwn k (after t c) cs → ByOwn k t (c ∷ cs)
 by-call k t c cs l g true h ih =
@@ -33,18 +20,16 @@ by-call k t c cs l g true h ih =
     record {
       told-is = rw (h, s .0, ih .told-is, s .1);
       own-is = rw h (ih .own-is ∙ ap (λ (ns : List Run). aloneRuns ns (recordsOf k cs)) (s .1));
-      kept-is = rw (kept-own k c (isRefusal (told t c)) (notRefused (after t c) cs) h, h, s .0, ih .kept-is, s .1);
     }
 by-call k t c cs l g false h ih =
     let same = called t c g .other-is k (eqb-false (c .rack) k h) in
     record {
       told-is = rw h (ih .told-is ∙ ap (λ (ns : List Run). aloneTold ns (recordsOf k cs)) same);
       own-is = rw h (ih .own-is ∙ ap (λ (ns : List Run). aloneRuns ns (recordsOf k cs)) same);
-      kept-is = kept-other k c (isRefusal (told t c)) (notRefused (after t c) cs) h ∙ rw h (ih .kept-is ∙ ap (λ (ns : List Run). aloneKept ns (recordsOf k cs)) same);
     }
 
 by-own : (k : ℕ) (t : Table) (cs : List Call) → k ≤ 1 → Good t → ByOwn k t cs
-by-own k t [] l g = record { told-is = refl; own-is = refl; kept-is = refl }
+by-own k t [] l g = record { told-is = refl; own-is = refl }
 by-own k t (c ∷ cs) l g = by-call k t c cs l g _ refl (by-own k (after t c) cs l (called t c g .good))
 
 pub good-all : (t : Table) (cs : List Call) → Good t → Good (afterAll t cs)
@@ -64,11 +49,6 @@ own-alone k l t u g h e r =
     let a = leaves t k r l g in
     let b = leaves u k r l h in
     (a .tells ∙ ap (λ (ns : List Run). aloneBy ns r .told) e ∙ sym (b .tells), a .own-is ∙ ap (λ (ns : List Run). aloneBy ns r .runs) e ∙ sym (b .own-is))
-
-pub afresh : (k : ℕ) → k ≤ 1 → (rows : List Row) → length rows ≡ 64 → (cs : List Call) → ownOf k (afterAll (empty rows) cs) ≡ runsOf (secondsOf (recordsOf k (notRefused (empty rows) cs)))
-afresh k l rows f cs =
-    let a = by-own k (empty rows) cs l (good-empty rows f) in
-    a .own-is ∙ alone-afresh [] [] (recordsOf k cs) refl ∙ ap (λ (rs : List Record). runsOf (secondsOf rs)) (sym (a .kept-is))
 
 -- a rack without records has no rows
 pub none-own : (k : ℕ) → k ≤ 1 → (rows : List Row) → length rows ≡ 64 → (cs : List Call) → recordsOf k cs ≡ [] → ownOf k (afterAll (empty rows) cs) ≡ []

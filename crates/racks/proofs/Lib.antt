@@ -7,7 +7,9 @@ pub mod Answers
 pub mod Alone
 pub mod Tables
 pub mod Calls
-pub mod Arrival
+pub mod Taken
+pub mod Afresh
+pub mod RackZero
 pub mod Racks
 pub mod Cases
 pub mod Values

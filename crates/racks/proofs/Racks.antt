@@ -4,9 +4,10 @@ use Rattle.racks.specs.declared.Outcome.the-variants as outcome
 use Rattle.racks.specs.declared.Row.{Row}
 use Rattle.racks.specs.Calls.{Call, afterAll, empty, told}
 use Rattle.racks.specs.Racks.{Racks}
+use Rattle.racks.proofs.Afresh.{afresh, arrival}
 use Rattle.racks.proofs.Answers.{refusals, table-number}
-use Rattle.racks.proofs.Arrival.{arrival, rack-zero}
-use Rattle.racks.proofs.Calls.{afresh, good-all, isolated, own-alone}
+use Rattle.racks.proofs.Calls.{good-all, isolated, own-alone}
+use Rattle.racks.proofs.RackZero.{rack-zero}
 use Rattle.racks.proofs.Tables.{good-empty, good-table}
 
 possible : (rows : List Row) → length rows ≡ 64 → (cs : List Call) (c : Call) → told (afterAll (empty rows) cs) c ≡ outcome.BadTable → ⊥

@@ -19,7 +19,7 @@ use Rattle.racks.proofs.Own.{count, ends, follows-some, newest-at}
 use Rattle.racks.proofs.Put.{joined-own, opened-other, opened-others, opened-own, other-own, others-set}
 use Rattle.racks.proofs.Stored.{Counted, counted, room}
 
-abbrev tableOf : After → Table
+abbrev pub tableOf : After → Table
 tableOf a = record { rows = a .rows; used = a .answer .used }
 
 -- an answer and the table that it leaves, where rack k has the runs of a

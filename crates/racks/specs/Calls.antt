@@ -1,4 +1,5 @@
 -- Calls one after the other, each on the rows and the number in use that the one before it left.
+use mathlib.Core.Bool.{Bool, true, not}
 use mathlib.Core.List.{List, [], _∷_, _++_, map}
 use Prim.Native.Nat.{ℕ}
 use lib.Dec.{eqb}
@@ -9,9 +10,10 @@ use Rattle.runs.specs.declared.Run.{Run}
 use Rattle.runs.specs.declared.heard.SecondIn.{SecondIn}
 use Rattle.runs.specs.declared.heard.SecondIn.the-variants as second
 use Rattle.runs.specs.declared.second.Second.{Second}
+use Rattle.runs.specs.Afresh.{lastFrom}
 use Rattle.runs.specs.Heard.{secondIn}
+use Rattle.runs.specs.Seconds.{isNext}
 use Rattle.racks.specs.declared.Outcome.{Outcome}
-use Rattle.racks.specs.declared.Outcome.the-variants as outcome
 use Rattle.racks.specs.declared.Row.{Row}
 use Rattle.racks.specs.Rows.{addedTo, isRefusal, own}
 
@@ -90,18 +92,22 @@ pub record Opening : Type 0 where
 abbrev pub openingOf : Row → Opening
 openingOf y = record { rack = y .rack; first = y .run .first }
 
--- the openings of a list of calls, in "order of arrival"
-abbrev pub opensBy : Outcome → Call → List Opening
-opensBy outcome.Joined c = []
-opensBy outcome.Opened c = map (λ s. record { rack = c .rack; first = s }) (listed (secondIn (c .given)))
-opensBy outcome.NoRack c = []
-opensBy outcome.BadTable c = []
-opensBy outcome.NoSecond c = []
-opensBy outcome.NoRow c = []
+-- whether a second opens a row, by those that its rack told before: it is not the next of the last one
+abbrev pub opensBehind : List Second → Second → Bool
+opensBehind [] s = true
+opensBehind (a ∷ ss) s = not (isNext (lastFrom a ss) s)
 
-abbrev pub openings : Table → List Call → List Opening
-openings t [] = []
-openings t (c ∷ cs) = opensBy (told t c) c ++ openings (after t c) cs
+-- the openings of a list of calls, in "order of arrival", by the list alone: each call behind those before it
+abbrev pub openingOn : List Call → ℕ → SecondIn → List Opening
+openingOn before k (second.Told s) = pick (opensBehind (secondsOf (recordsOf k before)) s) (record { rack = k; first = s } ∷ []) []
+openingOn before k second.NotTold = []
+
+abbrev pub openingsFrom : List Call → List Call → List Opening
+openingsFrom before [] = []
+openingsFrom before (c ∷ cs) = openingOn before (c .rack) (secondIn (c .given)) ++ openingsFrom (before ++ (c ∷ [])) cs
+
+abbrev pub openings : List Call → List Opening
+openings cs = openingsFrom [] cs
 
 -- "the case of rack 0 alone"
 abbrev pub ofRackZero : List Record → List Call

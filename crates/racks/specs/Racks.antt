@@ -22,8 +22,8 @@ pub record Racks : Type 0 where
   -- W-206: "From an empty table that only these calls write, the rows must equal those worked out afresh from the records not refused.": each rack's
   pub afresh : (k : ℕ) → k ≤ 1 → (rows : List Row) → length rows ≡ 64 → (cs : List Call)
       → ownOf k (afterAll (empty rows) cs) ≡ runsOf (secondsOf (recordsOf k (notRefused (empty rows) cs)))
-  -- "Rows carry the rack, 0 or 1, and stand in order of arrival."
-  pub arrival : (rows : List Row) → length rows ≡ 64 → (cs : List Call) → map openingOf (inUse (afterAll (empty rows) cs)) ≡ openings (empty rows) cs
+  -- "Rows carry the rack, 0 or 1, and stand in order of arrival.": the openings too are worked out afresh from the records not refused
+  pub arrival : (rows : List Row) → length rows ≡ 64 → (cs : List Call) → map openingOf (inUse (afterAll (empty rows) cs)) ≡ openings (notRefused (empty rows) cs)
   -- "The table of W-206 is read as the case of rack 0 alone"
   pub rack-zero : (rows : List Row) → length rows ≡ 64 → (rs : List Record)
       → inUse (afterAll (empty rows) (ofRackZero rs)) ≡ map rowOfZero (runsOf (secondsOf (recordsOf 0 (notRefused (empty rows) (ofRackZero rs)))))

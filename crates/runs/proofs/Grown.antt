@@ -3,7 +3,7 @@ use Rattle.cond.proofs.Kit.{[], _+_, _++_, _∷_, _≡_, add-one, ap, Bool, fal
 use Rattle.cond.specs.Pick.{pick}
 use Rattle.runs.specs.declared.Run.{Run}
 use Rattle.runs.specs.declared.second.Second.{Second}
-use Rattle.runs.specs.Afresh.{Piece, cutFrom, inFront, rowOf, runsOf}
+use Rattle.runs.specs.Afresh.{Piece, cutFrom, inFront, lastFrom, rowOf, runsOf}
 use Rattle.runs.specs.Rows.{longer, single}
 use Rattle.runs.specs.Seconds.{isNext}
 
@@ -94,3 +94,17 @@ from-snoc s (u ∷ us) t =
 pub runs-snoc : (ss : List Second) (t : Second) → runsOf (ss ++ (t ∷ [])) ≡ grown (runsOf ss) t
 runs-snoc [] t = refl
 runs-snoc (s ∷ ss) t = from-snoc s ss t
+
+-- the newest run of a list of seconds ends in the last of them
+follows-behind : (b : Bool) (s t : Second) (ns : List Run) → Some ns → follows (pick b (before s ns) (single s ∷ ns)) t ≡ follows ns t
+follows-behind true s t ns c = rw (c .is) (behind-first s t (c .head) (c .rest))
+  where
+    behind-first : (s t : Second) (n : Run) (ns : List Run) → follows (earlier s n ∷ ns) t ≡ follows (n ∷ ns) t
+    behind-first s t n [] = refl
+    behind-first s t n (m ∷ ns) = refl
+follows-behind false s t ns c = rw (c .is)
+
+pub follows-last : (s : Second) (ss : List Second) (t : Second) → follows (map rowOf (cutFrom s ss)) t ≡ isNext (lastFrom s ss) t
+follows-last s [] t = refl
+follows-last s (u ∷ us) t =
+    rw (runs-cons (isNext s u) s (cutFrom u us), follows-behind (isNext s u) s t (map rowOf (cutFrom u us)) (some-runs u us)) (follows-last u us t)
