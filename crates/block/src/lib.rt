@@ -1,4 +1,6 @@
 // The block, form 9: "Lines closed by LF, these keys in this order".
+#![tactic(auto)]
+
 mod line;
 mod reader;
 mod writer;

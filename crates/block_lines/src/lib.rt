@@ -1,4 +1,6 @@
 // The lines of the block: "A line is key, `=`, value." Each has its own reader and its own writer at the head of a lent part.
+#![tactic(auto)]
+
 pub mod channel;
 pub mod date;
 pub mod flag;

@@ -1,4 +1,6 @@
 // The Gregorian calendar of the years 1980 to 2079, each named by its last two digits. Every function answers for all numbers: what is no date is said to be none.
+#![tactic(auto)]
+
 ghost use Rattle.std.specs.Prelude.{◌≡◌, true};
 ghost use Rattle.calendar.specs.Calendar.{day_number, day_of_year, is_date, is_month, month_length};
 ghost use Rattle.calendar.specs.Answers.{date_of_day, day_number_in, day_of_year_in, weekday_in};

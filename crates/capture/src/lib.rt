@@ -1,4 +1,6 @@
 // The Capture string, form 2: `CHx dd.mm.yy hh:mm:ss.fffffff<CR><LF>`.
+#![tactic(auto)]
+
 ghost use Rattle.std.specs.Prelude.{◌≡◌, ◌≤◌, length, take, drop};
 ghost use Rattle.forms.specs.Form.{Wrote, carries, read_by, values_by};
 ghost use Rattle.forms.specs.Required.{has_carried};

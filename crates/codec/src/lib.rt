@@ -1,4 +1,6 @@
 // One reader and one writer for all forms, by their numbers.
+#![tactic(auto)]
+
 ghost use Rattle.std.specs.Prelude.{◌≡◌, eqb};
 ghost use Rattle.cond.specs.Pick.{pick};
 ghost use Rattle.record.specs.declared.sign.SignRule.TheVariants.{OneAbove, OneBelow};

@@ -1,4 +1,6 @@
 // The Computime string, form 7: `T:yy:mm:dd:ww:hh:mm:ss<CR><LF>`.
+#![tactic(auto)]
+
 ghost use Rattle.std.specs.Prelude.{◌≡◌, length, take};
 ghost use Rattle.forms.specs.Form.{Wrote, carries, read_by, values_by};
 ghost use Rattle.forms.specs.Required.{has_carried};

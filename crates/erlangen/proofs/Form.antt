@@ -1,6 +1,6 @@
 -- What the tests of a Uni Erlangen string come to.
 use Rattle.spelling.specs.Spelling.{value_of, words}
-use Rattle.cond.proofs.Kit.{[], ◌&&◌, ◌||◌, ◌∙◌, ◌∷◌, ◌≡◌, and-true, ap, arith, Bool, drop, eqb, false, get_or, length, List, ltb, ne_eqb, not, refl, take, true, ℕ}
+use Rattle.cond.proofs.Kit.{[], ◌&&◌, ◌||◌, ◌∙◌, ◌∷◌, ◌≡◌, and-true, ap, arith, Bool, drop, eqb, get_or, length, List, ltb, ne_eqb, not, refl, take, true, ℕ}
 use Rattle.cond.specs.Pick.{one_if}
 use Rattle.spelling.specs.Bytes.{is_word, letters, same_bytes}
 use Rattle.spelling.proofs.Words.{all_different}
@@ -34,7 +34,7 @@ module _ (s : List ℕ) where
   unfolding carries_of has seconds_consistent zone_agrees decode_flag
   rest_of = simp and-true
 
-  module _ (l : length s ≡ 66) (t : Bool) (h : t ≡ shape erlangen_layout 0 s) (u : not t ≡ false) (r : Record) (e : r ≡ decode (carries erlangen) (values_by erlangen s)) (n : ℕ) (f : n ≡ values_by erlangen s weekday) where
+  module _ (l : length s ≡ 66) (t : Bool) (h : t ≡ shape erlangen_layout 0 s) (u : t ≡ true) (r : Record) (e : r ≡ decode (carries erlangen) (values_by erlangen s)) (n : ℕ) (f : n ≡ values_by erlangen s weekday) where
     -- a to d tell the ranges, and x to z what is told twice
     pub reads : (a b c d x y z : Bool) → a ≡ date_time_in_range r → b ≡ rest_in_range r → c ≡ weekday_in_range true n → d ≡ ltb (values_by erlangen s offset_minutes) 60
         → x ≡ falls_on r.date n → y ≡ leap_consistent true (values_by erlangen s) → z ≡ signs_consistent in_minutes degrees (values_by erlangen s)

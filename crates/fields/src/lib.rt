@@ -1,4 +1,6 @@
 // The fields of a record as layouts tell them: whether a field is there and of its kind, and its number.
+#![tactic(auto)]
+
 mod channel;
 mod date;
 mod flag;

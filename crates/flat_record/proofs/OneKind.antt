@@ -1,7 +1,6 @@
 -- A number that is none of a field's kinds does not fit it: a field of one kind, and one of two.
 use Rattle.cond.proofs.Kit.{◌≡◌, Bool, eqb, false, ne_eqb, ℕ}
 use Rattle.cond.proofs.Tests.{either_way}
-use Rattle.flat_record.specs.declared.decode.Kind.TheVariants as kind
 use Rattle.flat_record.specs.Decode.{fits_if_either, fits_if_there, kind_of}
 
 pub none_fits : (n : ℕ) (b : Bool) → (n ≡ 0 → ⊥) → (n ≡ 1 → ⊥) → false ≡ fits_if_there (kind_of n) b

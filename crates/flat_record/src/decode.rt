@@ -130,6 +130,7 @@ fn signs_fit(n: &[u32]) -> bool
     sign_fits(n[22], n[23]) & sign_fits(n[24], n[25])
 }
 
+#[tactic(auto, using(crate::proofs::OneKind::neither_fits), unfolding(crate::specs::Decode::kind_of))]
 fn position_fits(n: &[u32]) -> bool
     requires { length n.now ≡ size }
     ensures { result ≡ position_fits n.now }

@@ -153,6 +153,7 @@ fn put_head(r: Record, out: &mut [u32])
     put_numbers(out, 0, &n);
 }
 
+#[tactic(auto, unfolding(crate::specs::Encode::tail_of))]
 fn put_tail(r: Record, out: &mut [u32])
     requires { size ≤ length out.old }
     ensures { out.new ≡ sets out.old 12 (tail_of r) }

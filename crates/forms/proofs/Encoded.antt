@@ -11,7 +11,7 @@ use Rattle.forms.specs.Fields.Time.{leap_consistent, seconds_consistent}
 use Rattle.forms.specs.CarriedPart.{carried_part}
 use Rattle.forms.specs.Required.{has_carried}
 use Rattle.forms.specs.Places.{Layout, has}
-use Rattle.forms.specs.Slots.{Slot, Values, among, change, channel, day, day_seconds, deletion, dsp, fix, is_checksum, leap, leap_second, lsp}
+use Rattle.forms.specs.Slots.{Slot, Values, among, change, channel, day, day_seconds, dsp, fix, is_checksum, leap, leap_second, lsp}
 use Rattle.forms.specs.Slots.{month, notice, offset_minutes, quality, summer, sync, utc, weekday, year, zone}
 use Rattle.forms.specs.Decode.{decode}
 use Rattle.forms.specs.Encode.{encode}
@@ -51,7 +51,7 @@ module _ (ps : Layout) (c : Complete ps) (v : Values) (z : Read ps v) where
 
   dates_again : Each Again of_date
   unfolding carries_of Again
-  dates_again = each_had of_date (date_slots (date_kind ps)) (has ps) c.date _ (date_encoded (date_kind ps) v _ refl z.dates)
+  dates_again = each_had of_date (date_slots (date_kind ps)) (has ps) c.date _ (date_encoded (date_kind ps) v (decode (carries_of ps) v) refl z.dates)
 
   derived_again : Each Again derived
   unfolding carries_of Again weekday_consistent leap_consistent seconds_consistent
@@ -88,13 +88,13 @@ module _ (ps : Layout) (c : Complete ps) (v : Values) (z : Read ps v) where
       ((λ h. refl) and (λ h. refl) and (λ h. refl) and none)
       then derived_again
       then dates_again
-      then each_had of_fraction (fraction_slots (fraction_kind ps)) (has ps) c.fraction _ (fraction_encoded (fraction_kind ps) v _ refl)
+      then each_had of_fraction (fraction_slots (fraction_kind ps)) (has ps) c.fraction _ (fraction_encoded (fraction_kind ps) v (decode (carries_of ps) v) refl)
       then ((λ h. channel_encoded (has ps channel) v h) and none)
       then flags_again
       then each_had of_offset (offset_slots (offset_kind ps)) (has ps) c.offset _
-      (offset_encoded v _ z.minutes (offset_kind ps) refl z.offsets (small_of of_offset (offset_slots (offset_kind ps)) c.offset))
+      (offset_encoded v (decode (carries_of ps) v) z.minutes (offset_kind ps) refl z.offsets (small_of of_offset (offset_slots (offset_kind ps)) c.offset))
       then each_had of_position (position_slots (position_kind ps)) (has ps) c.position _
-      (position_encoded (position_kind ps) v _ refl z.arcs z.positions (small_of of_position (position_slots (position_kind ps)) c.position))
+      (position_encoded (position_kind ps) v (decode (carries_of ps) v) refl z.arcs z.positions (small_of of_position (position_slots (position_kind ps)) c.position))
 
   pub encoded_again : (f : Slot) → has ps f ≡ true → is_checksum f ≡ false → encode (decode (carries_of ps) v) f ≡ v f
   unfolding Again

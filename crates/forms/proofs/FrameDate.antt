@@ -4,7 +4,6 @@ use Rattle.cond.proofs.Tests.{both, either_way}
 use Rattle.calendar.specs.Answers.{date_of_day}
 use Rattle.calendar.specs.Calendar.{is_date}
 use Rattle.calendar.specs.declared.MonthDay.{MonthDay}
-use Rattle.calendar.specs.declared.MonthDay.TheVariants as MonthDay
 use Rattle.calendar.proofs.DayOfYear.{day_of, found_day}
 use Rattle.record.specs.Answers.{read_number}
 use Rattle.record.specs.Record.{date_in_range, date_time_in_range, in_range, time_in_range}

@@ -1,5 +1,5 @@
 -- What a form carries of a fraction or a position is the field itself or nothing, and a writer asks for its kind.
-use Rattle.cond.proofs.Kit.{◌∙◌, ◌≡◌, ◌⊎◌, ap, false, false≢true, inl, inr, refl, sym, true, ℕ, ⊎_elim}
+use Rattle.cond.proofs.Kit.{◌∙◌, ◌≡◌, ◌⊎◌, ap, false≢true, inl, inr, refl, sym, true, ℕ, ⊎_elim}
 use Rattle.cond.proofs.Tests.{either_way}
 use Rattle.record.specs.Answers.{write_number}
 use Rattle.record.specs.Record.{is_good}

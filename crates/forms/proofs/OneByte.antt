@@ -10,7 +10,7 @@ use Rattle.record.specs.declared.answer.Reading.TheVariants as reading
 use Rattle.forms.specs.Checksum.{Checksum, checksums_hold, exclusive_or, checksum_by}
 use Rattle.forms.specs.Form.{Form, read_by, values_by}
 use Rattle.forms.specs.Places.{Layout, bytes_of, is_of, value_at, values, width}
-use Rattle.forms.specs.Slots.{Slot, Values, is_checksum, of_checksum, same, checksum}
+use Rattle.forms.specs.Slots.{Slot, Values, is_checksum, of_checksum, checksum}
 use Rattle.forms.proofs.Accepted.{accepted}
 use Rattle.forms.proofs.Allowed.{all_at, all_drop, all_take, layout_all}
 use Rattle.forms.proofs.Checksums.{is_byte}

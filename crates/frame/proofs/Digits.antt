@@ -54,15 +54,15 @@ below_at_lem base [] k s = refl
 below_at_lem base (digit w ∷ gs) k s = simp (front s k w (groups_width gs), back s k w (groups_width gs), below_at_lem base gs (k + w) s)
 below_at_lem base (gap e ∷ gs) k s = simp (back s k 1 (groups_width gs), below_at_lem base gs (k + 1) s)
 
-sum_at : (base : ℕ) (gs : List Group) (k : ℕ) (s : List ℕ) → groups_number base gs (take (groups_width gs) (drop k s)) ≡ sum_at base gs k s
+sum_at_lem : (base : ℕ) (gs : List Group) (k : ℕ) (s : List ℕ) → groups_number base gs (take (groups_width gs) (drop k s)) ≡ sum_at base gs k s
 unfolding sum_at groups_number groups_width
-sum_at base [] k s = refl
-sum_at base (digit w ∷ gs) k s = simp (front s k w (groups_width gs), back s k w (groups_width gs), sum_at base gs (k + w) s)
-sum_at base (gap e ∷ gs) k s = simp (back s k 1 (groups_width gs), sum_at base gs (k + 1) s)
+sum_at_lem base [] k s = refl
+sum_at_lem base (digit w ∷ gs) k s = simp (front s k w (groups_width gs), back s k w (groups_width gs), sum_at_lem base gs (k + w) s)
+sum_at_lem base (gap e ∷ gs) k s = simp (back s k 1 (groups_width gs), sum_at_lem base gs (k + 1) s)
 
 pub groups_value : (base : ℕ) (gs : List Group) (k : ℕ) (s : List ℕ) → k + groups_width gs ≤ length s
     → value_of (grouped base gs) (take (groups_width gs) (drop k s)) ≡ pick (below_at base gs k s) (sum_at base gs k s) (groups_limit base gs)
-groups_value base gs k s h = sized_value _ (grouped base gs) (piece_length k s (groups_width gs) h) ∙ simp (below_at_lem base gs k s, sum_at base gs k s)
+groups_value base gs k s h = sized_value _ (grouped base gs) (piece_length k s (groups_width gs) h) ∙ simp (below_at_lem base gs k s, sum_at_lem base gs k s)
 
 -- two digits below a base are a number below its square
 pub pair_lt : (u t base : ℕ) → base ≤ 512 → (ltb u base && ltb t base) ≡ true → u + base * t < 262144

@@ -1,4 +1,6 @@
 // The IEEE1344 frame by a sign rule, forms 8 and 11: ten groups of ten elements, 0, 1, or 2 for a position mark.
+#![tactic(auto)]
+
 ghost use Rattle.std.specs.Prelude.{◌≡◌};
 ghost use Rattle.record.specs.declared.sign.SignRule.TheVariants.{OneBelow};
 ghost use Rattle.forms.specs.Form.{Wrote, carries, read_by};

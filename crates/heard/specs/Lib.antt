@@ -1,2 +1,4 @@
 pub mod Counted
 pub mod Output
+pub mod Listened
+pub mod Answer

@@ -1,29 +1,42 @@
 // Prints the time strings of a stream on standard input: a first line with the form's number, then the stream.
-ghost use Rattle.std.specs.Prelude.{List, ◌≡◌, ℕ, ◌+◌, ◌/◌, ◌≤◌, ◌<◌, length};
+#![tactic(auto)]
+
+ghost use Rattle.std.specs.Prelude.{List, ◌≡◌, ℕ, ◌+◌, ◌-◌, ◌^◌, ◌/◌, ◌≤◌, ◌<◌, length, take, IfOk, OnOk, IfSome};
+ghost use Rattle.std.specs.Io.KnownBytes.{Appends, Consumes, IsAtEnd, ReadConsumes};
 ghost use Rattle.forms.specs.Valid.{length_of};
-ghost use Rattle.report.specs.Piece.{ReportedPiece};
+ghost use Rattle.report.specs.Piece.{ReportedPiece, piece_in};
+ghost use Rattle.report.specs.Printed.{printed, records_in};
+ghost use Rattle.report.specs.Summary.{end_line};
 ghost use Rattle.report.specs.declared.piece.PieceReport.TheVariants as piece;
+ghost use Rattle.heard.specs.Answer.{answer_to};
 ghost use Rattle.heard.specs.Counted.{Counted};
+ghost use Rattle.heard.specs.Listened.{Listened};
 ghost use Rattle.heard.specs.Output.{Output};
 
-use libc::{STDIN_FILENO, STDOUT_FILENO};
 use record::answer::Writing;
 use report::PieceReport;
+use std::io;
+use std::io::{Read, Write};
 
-// What a piece brought, and whether it was written.
+// What a piece brought.
 #[derive(Drop)]
 struct Printed {
     telegrams: usize,
     carried: usize,
-    written: bool,
 }
 
-// What the stream brought, and whether all of it was written.
+// What the stream brought.
 #[derive(Drop)]
 struct Total {
     bytes: u64,
     telegrams: u64,
-    written: bool,
+}
+
+// Room for a piece.
+fn input() -> [u8; 65536]
+    ensures { 65536 ≡ length result }
+{
+    [0; 65536]
 }
 
 // Room for what a full buffer tells: 11 bytes for each of its bytes.
@@ -33,110 +46,131 @@ fn output() -> [u8; 720896]
     [0; 720896]
 }
 
-// One read. A read that fails counts as the end of the stream.
-fn read_some(part: &mut [u8]) -> usize
-    ensures { result ≤ length part.old }
+// One read.
+fn read_some<R: Read>(reader: &mut R, part: &mut [u8]) -> io::Result<usize>
+    ensures inside { IfOk result (λ got. got ≤ length part.old) }
+    ensures bytes { ReadConsumes (R.remaining reader.old) (R.remaining reader.new) result part.new }
 {
-    let got = libc::read(STDIN_FILENO, part);
-    io::count(got, part)
+    reader.read(part)
 }
 
-// All that the program writes goes through here. False where the write fails.
-fn print(text: &[u8]) -> bool
-    requires { Output text.now }
+// Reads until the part is full or the input ends.
+fn read_full<R: Read>(reader: &mut R, part: &mut [u8]) -> io::Result<usize>
+    ensures inside { IfOk result (λ n. n ≤ length part.new) }
+    ensures bytes { IfOk result (λ n. Consumes (R.remaining reader.old) (R.remaining reader.new) (take n part.new)) }
+    ensures end { IfOk result (λ n. n < length part.new → IsAtEnd (R.remaining reader.new)) }
 {
-    io::write_all(STDOUT_FILENO, text)
+    let mut done = 0;
+    while done < part.len() {
+        let got = read_some(reader, &mut part[done..])?;
+        if got == 0 {
+            break;
+        }
+        done += got;
+    }
+    Ok(done)
+}
+
+// All that the program writes goes through here.
+fn print<W: Write>(writer: &mut W, text: &[u8]) -> io::Result<()>
+    requires { Output text.now }
+    ensures { OnOk result (Appends (W.contents writer.old) (W.contents writer.new) text.now) }
+{
+    writer.write_all(text)
 }
 
 // All records of a piece go out in one write.
-fn print_piece(form: u32, carried: usize, got: usize, buffer: &mut [u8], out: &mut [u8]) -> Printed
+fn print_piece<W: Write>(
+    form: u32,
+    carried: usize,
+    got: usize,
+    buffer: &mut [u8],
+    out: &mut [u8],
+    writer: &mut W,
+) -> io::Result<Printed>
     requires { (0 < length_of form) × (length buffer.old ≤ length out.old / 11) }
-    ensures { (bytes : ℕ) × ReportedPiece form carried got (piece.Written result.telegrams bytes result.carried) buffer.old out.old buffer.new out.new }
+    ensures reported { IfOk result (λ p. (bytes : ℕ) × ReportedPiece form carried got (piece.Written p.telegrams bytes p.carried) buffer.old out.old buffer.new out.new) }
+    ensures told { OnOk result (Appends (W.contents writer.old) (W.contents writer.new) (printed (records_in form (piece_in carried got buffer.old)))) }
 {
     match report::report_piece(form, carried, got, buffer, out) {
         PieceReport::Written {
             telegrams,
             bytes,
             carried,
-        } => Printed {
-            telegrams,
-            carried,
-            written: print(&out[..bytes]),
-        },
-        PieceReport::Refused(_) => Printed {
+        } => {
+            print(writer, &out[..bytes])?;
+            Ok(Printed { telegrams, carried })
+        }
+        PieceReport::Refused(_) => Ok(Printed {
             telegrams: 0,
             carried: 0,
-            written: false,
-        },
+        }),
     }
 }
 
 // `left` counts down from more bytes than any stream has, so that the loop ends and no count runs over. Where a write fails nothing more
 // is read.
-fn listen(form: u32) -> Total
+fn listen<R: Read, W: Write>(form: u32, reader: &mut R, writer: &mut W) -> io::Result<Total>
     requires { 0 < length_of form }
-    ensures { (carried : ℕ) × (buffer : List ℕ) × Counted form carried buffer result.bytes result.telegrams }
+    ensures counted { IfOk result (λ t. (carried : ℕ) × (buffer : List ℕ) × Counted form carried buffer t.bytes t.telegrams) }
+    ensures listened { IfOk result (λ t. Listened form (R.remaining reader.old) (R.remaining reader.new) (W.contents writer.old) (W.contents writer.new) t.bytes t.telegrams) }
+    ensures end { IfOk result (λ t. t.bytes < 2 ^ 64 - 65536 → IsAtEnd (R.remaining reader.new)) }
 {
-    let mut buffer = io::large_buffer();
+    let mut buffer = input();
     let mut out = output();
     let mut carried = 0;
     let mut telegrams: u64 = 0;
     let mut left = u64::MAX;
     while 65536 <= left {
-        let got = read_some(&mut buffer[carried..]);
+        let got = read_some(reader, &mut buffer[carried..])?;
         if got == 0 {
             break;
         }
-        let p = print_piece(form, carried, got, &mut buffer, &mut out);
-        if !p.written {
-            return Total {
-                bytes: u64::MAX - left,
-                telegrams,
-                written: false,
-            };
-        }
+        let p = print_piece(form, carried, got, &mut buffer, &mut out, writer)?;
         carried = p.carried;
         telegrams += p.telegrams as u64;
         left -= got as u64;
     }
-    Total {
+    Ok(Total {
         bytes: u64::MAX - left,
         telegrams,
-        written: true,
-    }
+    })
 }
 
 // The last line, of what was read and counted.
-fn print_end(bytes: u64, telegrams: u64, out: &mut [u8])
+fn print_end<W: Write>(bytes: u64, telegrams: u64, out: &mut [u8], writer: &mut W) -> io::Result<()>
     requires { (form : ℕ) × (carried : ℕ) × (buffer : List ℕ) × Counted form carried buffer bytes telegrams }
+    ensures { 62 ≤ length out.old → OnOk result (Appends (W.contents writer.old) (W.contents writer.new) (end_line bytes telegrams)) }
 {
     match report::write_end(bytes, telegrams, out) {
-        Writing::Written(n) => {
-            print(&out[..n]);
-        }
-        Writing::Refused(_) => {}
+        Writing::Written(n) => print(writer, &out[..n]),
+        Writing::Refused(_) => Ok(()),
     }
 }
 
 // It has 62 bytes at the most.
-fn finish(bytes: u64, telegrams: u64)
+fn finish<W: Write>(bytes: u64, telegrams: u64, writer: &mut W) -> io::Result<()>
     requires { (form : ℕ) × (carried : ℕ) × (buffer : List ℕ) × Counted form carried buffer bytes telegrams }
+    ensures { OnOk result (Appends (W.contents writer.old) (W.contents writer.new) (end_line bytes telegrams)) }
 {
     let mut line = [0u8; 62];
-    print_end(bytes, telegrams, &mut line);
+    print_end(bytes, telegrams, &mut line, writer)
 }
 
-// Where a write failed the last line is not written either.
-fn main() {
+// All that the program does. Where a read or a write failed the last line is not written either.
+fn run<R: Read, W: Write>(reader: &mut R, writer: &mut W) -> io::Result<()>
+    ensures { OnOk result (IfSome (R.remaining reader.old) (λ input. length input < 2 ^ 64 - 65536 → Appends (W.contents writer.old) (W.contents writer.new) (answer_to input))) }
+{
     let mut line = [0u8; 2];
-    let n = io::read_full(STDIN_FILENO, &mut line);
+    let n = read_full(reader, &mut line)?;
     let form = report::form_of(&line[..n]);
     if serial::length_of(form) == 0 {
-        print(b"refused=1\n");
-        return;
+        return print(writer, b"refused=1\n");
     }
-    let total = listen(form);
-    if total.written {
-        finish(total.bytes, total.telegrams);
-    }
+    let total = listen(form, reader, writer)?;
+    finish(total.bytes, total.telegrams, writer)
+}
+
+fn main(rt: HostRuntime) -> io::Result<()> {
+    run(&mut rt.stdin(), &mut rt.stdout())
 }

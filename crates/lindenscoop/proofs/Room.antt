@@ -1,5 +1,5 @@
 -- What room there is, and what stands at the head of a buffer that has it.
-use Rattle.cond.proofs.Kit.{◌∙◌, ◌≡◌, ◌≤◌, ap, Bool, false, leb-true, length, List, not, not-false, not-true, sym, true, ℕ}
+use Rattle.cond.proofs.Kit.{◌∙◌, ◌≡◌, ◌≤◌, ap, false, leb-true, length, List, true, ℕ}
 use Rattle.cond.proofs.Tests.{both}
 use Rattle.record.specs.declared.Record.{Record}
 use Rattle.record.specs.declared.answer.Writing.{Writing}
@@ -11,14 +11,6 @@ use Rattle.flat_record.specs.Encode.{Put, put_answer}
 use Rattle.lindenscoop.specs.Buffers.{both_fit, held, record_fits, shown, state_fits, too_short}
 use Rattle.lindenscoop.specs.Listener.{Answered, answer_number, answer_numbers}
 use Rattle.lindenscoop.specs.State.{state_size}
-
--- a test in front of a refusal
-
-pub short : {b test : Bool} → b ≡ test → not b ≡ true → test ≡ false
-short {b} e h = sym e ∙ not-true b h
-
-pub enough : {b test : Bool} → b ≡ test → not b ≡ false → test ≡ true
-enough {b} e h = sym e ∙ not-false b h
 
 pub room : (s : List ℕ) → state_fits s ≡ true → state_size ≤ length s
 room s h = leb-true state_size (length s) h

@@ -40,8 +40,7 @@ fn added_numbers(added: Added) -> AddedNumbers
 }
 
 // Puts the second of a rack's record into the runs. The table is lent on; record and answer cross by value, so that nothing else is lent.
-#[unsafe(no_mangle)]
-pub extern "C" fn lindenscoop_add_rack_second_numbers(
+pub fn lindenscoop_add_rack_second_numbers(
     rows: &mut [Row],
     used: u32,
     rack: u32,

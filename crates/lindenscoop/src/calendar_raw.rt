@@ -21,21 +21,14 @@ fn store(answer: Day, number: &mut u32) -> u32
 }
 
 // The year with its century that the digits `yy` name.
-#[unsafe(no_mangle)]
-pub extern "C" fn lindenscoop_full_year_raw(yy: u32, year: &mut u32) -> u32
+pub fn lindenscoop_full_year_raw(yy: u32, year: &mut u32) -> u32
     ensures { NumberedAs (full_year_in yy) result year.new }
 {
     store(calendar::year::full_year(yy), year)
 }
 
 // The days from 1 January 1980 to a date.
-#[unsafe(no_mangle)]
-pub extern "C" fn lindenscoop_days_since_1980_raw(
-    yy: u32,
-    month: u32,
-    day: u32,
-    days: &mut u32,
-) -> u32
+pub fn lindenscoop_days_since_1980_raw(yy: u32, month: u32, day: u32, days: &mut u32) -> u32
     ensures { NumberedAs (day_number_in yy month day) result days.new }
 {
     store(calendar::day_number(yy, month, day), days)

@@ -2,8 +2,7 @@
 ghost use Rattle.lindenscoop.specs.Index.{MarkedAs};
 
 // Marks each byte that completes a string with 1, any other with 0.
-#[unsafe(no_mangle)]
-pub extern "C" fn lindenscoop_mark_raw(form: u32, bytes: &[u8], marks: &mut [u8]) -> u32
+pub fn lindenscoop_mark_raw(form: u32, bytes: &[u8], marks: &mut [u8]) -> u32
     ensures { MarkedAs form bytes.now marks.old result marks.new }
 {
     let marking = listener::mark(form, bytes, marks);

@@ -35,8 +35,7 @@ fn put_heard(heard: Heard, numbers: &mut [u32])
 }
 
 // A new listener.
-#[unsafe(no_mangle)]
-pub extern "C" fn lindenscoop_start_raw(form: u32, state: &mut [u8]) -> u32
+pub fn lindenscoop_start_raw(form: u32, state: &mut [u8]) -> u32
     ensures { StartedAs form state.old result state.new }
 {
     if !state_fits(state) {
@@ -50,8 +49,7 @@ pub extern "C" fn lindenscoop_start_raw(form: u32, state: &mut [u8]) -> u32
 }
 
 // One byte; the record is changed where one is handed out.
-#[unsafe(no_mangle)]
-pub extern "C" fn lindenscoop_feed_numbers(state: &mut [u8], byte: u8, numbers: &mut [u32]) -> u32
+pub fn lindenscoop_feed_numbers(state: &mut [u8], byte: u8, numbers: &mut [u32]) -> u32
     ensures { FedAs state.old byte numbers.old result state.new numbers.new }
 {
     if !both_fit(state, numbers) {
@@ -74,8 +72,7 @@ pub extern "C" fn lindenscoop_feed_numbers(state: &mut [u8], byte: u8, numbers: 
 }
 
 // Bytes one after the other, up to the first that is answered by anything but nothing.
-#[unsafe(no_mangle)]
-pub extern "C" fn lindenscoop_feed_all_numbers(
+pub fn lindenscoop_feed_all_numbers(
     state: &mut [u8],
     bytes: &[u8],
     used: &mut usize,

@@ -6,8 +6,7 @@ use record::Record;
 use search::Finding;
 
 // The first valid string at or after the start, its place and its record.
-#[unsafe(no_mangle)]
-pub extern "C" fn lindenscoop_search_numbers(
+pub fn lindenscoop_search_numbers(
     form: u32,
     bytes: &[u8],
     start: usize,

@@ -24,8 +24,7 @@ fn write_numbers(form: u32, numbers: &[u32], out: &mut [u8]) -> Writing
 }
 
 // The record of a string.
-#[unsafe(no_mangle)]
-pub extern "C" fn lindenscoop_read_numbers(form: u32, input: &[u8], numbers: &mut [u32]) -> u32
+pub fn lindenscoop_read_numbers(form: u32, input: &[u8], numbers: &mut [u32]) -> u32
     ensures { ReadAs form input.now numbers.old result numbers.new }
 {
     if !record_fits(numbers) {
@@ -45,8 +44,7 @@ pub extern "C" fn lindenscoop_read_numbers(form: u32, input: &[u8], numbers: &mu
 }
 
 // The string of the record at the head of the numbers.
-#[unsafe(no_mangle)]
-pub extern "C" fn lindenscoop_write_numbers(
+pub fn lindenscoop_write_numbers(
     form: u32,
     numbers: &[u32],
     out: &mut [u8],

@@ -1,4 +1,6 @@
 // A listener for a stream of the strings of one serial form.
+#![tactic(auto)]
+
 ghost use Rattle.std.specs.Prelude.{◌≡◌, eqb, ◌+◌, ◌-◌, ◌≤◌, ◌<◌, min};
 ghost use Rattle.std.proofs.Math.Option.{none};
 ghost use Rattle.cond.specs.Pick.{pick};
@@ -22,7 +24,7 @@ pub use marks::mark;
 pub use passing::{Passing, passing_of};
 
 // The last bytes fed stand in a ring, the last `kept` of them count, and the next one goes to place `at`.
-#[derive(Drop)]
+#[derive(Clone, Copy)]
 pub struct Listener {
     pub bytes: [u8; LONGEST],
     pub at: usize,
@@ -31,7 +33,7 @@ pub struct Listener {
     pub form: u32,
 }
 
-#[derive(Drop)]
+#[derive(Clone, Copy)]
 pub enum Heard {
     Handed(Record),
     Nothing,
@@ -39,20 +41,20 @@ pub enum Heard {
 }
 
 // The answer to a byte, beside the next state.
-#[derive(Drop)]
+#[derive(Clone, Copy)]
 pub struct Fed {
     pub next: Listener,
     pub heard: Heard,
 }
 
-#[derive(Drop)]
+#[derive(Clone, Copy)]
 pub enum Starting {
     Fresh,
     Refused(Refusal),
 }
 
 // A new listener, beside the answer to its start.
-#[derive(Drop)]
+#[derive(Clone, Copy)]
 pub struct Started {
     pub listener: Listener,
     pub answer: Starting,

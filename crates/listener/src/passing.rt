@@ -6,7 +6,7 @@ use crate::{buffered_after, one_more, ring};
 use serial::Shape;
 
 // The place of the ring where the byte goes, then the next state's `at`, `kept` and `distance`; or any other byte.
-#[derive(Drop)]
+#[derive(Clone, Copy)]
 pub enum Passing {
     Passed(usize, usize, usize, usize),
     Other,

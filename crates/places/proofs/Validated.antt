@@ -1,6 +1,6 @@
 -- The last two tests of a reader over any form: on the record alone where the layout tells nothing besides, on the weekday too where
 -- it has a place for it.
-use Rattle.cond.proofs.Kit.{[], ◌&&◌, ◌+◌, ◌||◌, ◌∙◌, ◌∷◌, ◌≡◌, and-true, ap, Bool, eqb, eqb-true, false, false≢true, length, List, not, not-false, not-true, refl, sym, true, ℕ}
+use Rattle.cond.proofs.Kit.{[], ◌&&◌, ◌+◌, ◌||◌, ◌∙◌, ◌∷◌, ◌≡◌, and-true, ap, Bool, eqb, eqb-true, false, false≢true, length, List, not, not-true, refl, sym, true, ℕ}
 use Rattle.cond.specs.Pick.{pick}
 use Rattle.cond.proofs.Tests.{either_way}
 use Rattle.calendar.specs.Calendar.{is_date, weekday_of}
@@ -160,19 +160,19 @@ module _ (d : Form) (s : List ℕ) (r : Record) (e : r ≡ decoded d s) where
 
 -- how a reader ends behind the tests of its bytes, where t tells the ranges and u what is told twice
 pub record Ends (d : Form) (s : List ℕ) (r : Record) (t u : Bool) : Type 0 where
-  pub ranged : not t ≡ true → reading.Refused refusal.OutOfRange ≡ read_by d s
-  pub agreed : not t ≡ false → not u ≡ true → reading.Refused refusal.Disagreement ≡ read_by d s
-  pub told : not t ≡ false → not u ≡ false → reading.Read r ≡ read_by d s
+  pub ranged : t ≡ false → reading.Refused refusal.OutOfRange ≡ read_by d s
+  pub agreed : t ≡ true → u ≡ false → reading.Refused refusal.Disagreement ≡ read_by d s
+  pub told : t ≡ true → u ≡ true → reading.Read r ≡ read_by d s
 
 -- of a string of the right length, shape, which was tested by b, and checksum that decodes to r
-module _ (d : Form) (s : List ℕ) (l : length s ≡ d.size) (b : Bool) (h : b ≡ shape d.layout 0 s) (n : not b ≡ false) (q : checksums_hold d.checksums s (values_by d s) ≡ true) where
+module _ (d : Form) (s : List ℕ) (l : length s ≡ d.size) (b : Bool) (h : b ≡ shape d.layout 0 s) (n : b ≡ true) (q : checksums_hold d.checksums s (values_by d s) ≡ true) where
   pub ends : (r : Record) (t u : Bool) → verdict t u r ≡ validated (carries d) (values_by d s) → Ends d s r t u
   ends r t u v =
-      let e = v ∙ sym (read_validated d s l (sym h ∙ not-false b n) q) in
+      let e = v ∙ sym (read_validated d s l (sym h ∙ n) q) in
       record {
-        ranged = λ x. out_of_range t u r (not-true t x) ∙ e;
-        agreed = λ x y. disagreement t u r (not-false t x) (not-true u y) ∙ e;
-        told = λ x y. read_as_lem t u r (not-false t x) (not-false u y) ∙ e;
+        ranged = λ x. out_of_range t u r x ∙ e;
+        agreed = λ x y. disagreement t u r x y ∙ e;
+        told = λ x y. read_as_lem t u r x y ∙ e;
       }
 
   -- t tells the record's ranges

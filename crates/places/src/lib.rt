@@ -1,5 +1,7 @@
 // What the readers and writers of the serial forms share: places of a fixed layout in a lent slice, tested, read and stored, what
 // a layout tells twice, and the tests with which every reader ends and every writer begins.
+#![tactic(auto)]
+
 mod arc;
 mod inspect;
 mod put;

@@ -1,4 +1,6 @@
 // The RACAL string, form 5: `XGUyymmddhhmmss<CR>`.
+#![tactic(auto)]
+
 ghost use Rattle.std.specs.Prelude.{◌≡◌};
 ghost use Rattle.forms.specs.Form.{Wrote, carries, read_by, values_by};
 ghost use Rattle.forms.specs.Required.{has_carried};

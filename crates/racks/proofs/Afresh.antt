@@ -9,7 +9,7 @@ use Rattle.runs.specs.Afresh.{runs_of}
 use Rattle.runs.specs.Heard.{second_in}
 use Rattle.runs.proofs.Grown.{follows, follows_last, grown, runs_snoc}
 use Rattle.racks.specs.declared.Row.{Row}
-use Rattle.racks.specs.Calls.{Call, Opening, Table, after, after_all, empty, in_use, listed, not_refused, opening_of, opening_on, openings, openings_from, opens_behind, own_of, records_of, seconds_of, told}
+use Rattle.racks.specs.Calls.{Call, Opening, Table, after, after_all, empty, in_use, listed, not_refused, opening_of, opening_on, openings, openings_from, opens_behind, own_of, records_of, seconds_of}
 use Rattle.racks.proofs.Answers.{refusals}
 use Rattle.racks.proofs.Tables.{Good, called, good_empty, table_of}
 use Rattle.racks.proofs.Taken.{Step, Steps, opening_for, step}

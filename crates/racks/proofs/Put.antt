@@ -1,5 +1,5 @@
 -- What a row that is put into a table does to the rows of its rack and of the other.
-use Rattle.cond.proofs.Kit.{[], ◌+◌, ◌++◌, ◌<◌, ◌∙◌, ◌∷◌, ◌≡◌, ◌≤◌, ap, arith, Bool, eq-eqb, eqb, eqb-false, eqb-true, false, get_or-set_same, le-ltb, length, List, ne_eqb, refl, set, suc, sym, true, zero, ℕ}
+use Rattle.cond.proofs.Kit.{[], ◌++◌, ◌<◌, ◌∙◌, ◌∷◌, ◌≡◌, ◌≤◌, ap, arith, Bool, eq-eqb, eqb, eqb-false, eqb-true, false, get_or-set_same, le-ltb, length, List, ne_eqb, refl, set, suc, sym, true, zero, ℕ}
 use lib.Seq.{get_or-set_other}
 use Rattle.runs.specs.declared.Run.{Run}
 use Rattle.runs.specs.declared.second.Second.{Second}
@@ -61,11 +61,15 @@ joined_to k rows s i = set rows (newest_at k rows i) (record { rack = k; run = l
 joined_by : (k : ℕ) (rows : List Row) (s : Second) (i : ℕ) (b : Bool) → is_of k rows i ≡ b → i < length rows → 0 < length (own k rows (suc i))
     → (0 < length (own k rows i) → own k (joined_to k rows s i) i ≡ extended (own k rows i) s) → own k (joined_to k rows s (suc i)) (suc i) ≡ extended (own k rows (suc i)) s
 joined_by k rows s i true h l f e =
-    rw (newest_of k rows i h, at_of k rows i h, own_of k rows i h) (opened_own k rows (longer (row_at rows i).run s) i l ∙ sym (extended_snoc (own k rows i) (row_at rows i).run s))
+    let moved : joined_to k rows s (suc i) ≡ set rows i (record { rack = k; run = longer (row_at rows i).run s }) = rw (newest_of k rows i h, at_of k rows i h) refl in
+    ap (λ (ys : List Row). own k ys (suc i)) moved ∙ opened_own k rows (longer (row_at rows i).run s) i l ∙ sym (extended_snoc (own k rows i) (row_at rows i).run s)
+    ∙ ap (λ (ns : List Run). extended ns s) (sym (own_of k rows i h))
 joined_by k rows s i false h l f e =
     let g : 0 < length (own k rows i) = rw (own_not k rows i h) at f in
     let same = get_or-set_other rows (newest_at k rows i) i (record { rack = k; run = longer (newest k rows i) s }) no_row (λ q. omega (arith, (newest_at_lem k rows i g).0)) in
-    rw (newest_not k rows i h, at_not k rows i h, own_not k rows i h, same, h) (e g)
+    let moved : joined_to k rows s (suc i) ≡ joined_to k rows s i = rw (newest_not k rows i h, at_not k rows i h) refl in
+    let kept : is_of k (joined_to k rows s i) i ≡ false = ap (λ (y : Row). eqb y.rack k) same ∙ h in
+    ap (λ (ys : List Row). own k ys (suc i)) moved ∙ own_not k (joined_to k rows s i) i kept ∙ e g ∙ ap (λ (ns : List Run). extended ns s) (sym (own_not k rows i h))
 
 pub joined_own : (k : ℕ) (rows : List Row) (s : Second) (i : ℕ) → i ≤ length rows → 0 < length (own k rows i) → own k (joined_to k rows s i) i ≡ extended (own k rows i) s
 joined_own k rows s zero l f = absurd (omega arith)

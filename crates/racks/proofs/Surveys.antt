@@ -3,7 +3,7 @@ use Rattle.cond.proofs.Kit.{◌+◌, ◌<◌, ◌∙◌, ◌||◌, ◌≡◌, �
 use Rattle.racks.specs.declared.Row.{Row}
 use Rattle.racks.specs.declared.survey.Survey.{Survey}
 use Rattle.racks.specs.Changes.{seen_with, survey_of}
-use Rattle.racks.specs.Rows.{is_of, newest, newest_at, others, own, row_at}
+use Rattle.racks.specs.Rows.{is_of, newest_at, others, own, row_at}
 use Rattle.racks.proofs.Changes.{seen_one, seen_other, seen_zero}
 use Rattle.racks.proofs.Own.{at_not, at_of, newest_lt, own_few, own_not, own_of}
 

@@ -1,5 +1,5 @@
 -- One call on a table that is not refused: its rack is told, and left with, what its own runs say; the other rack's rows stay.
-use Rattle.cond.proofs.Kit.{[], ◌+◌, ◌++◌, ◌<◌, ◌∙◌, ◌∷◌, ◌||◌, ◌≡◌, ◌≤◌, ◌⊎◌, add-one, ap, arith, Bool, eq-eqb, eqb, eqb-false, eqb-true, false, inl, inr, le-leb, leb, leb-true, length, length-set, List, ltb, ltb-true, ne_eqb, refl, subst, sym, true, ℕ}
+use Rattle.cond.proofs.Kit.{[], ◌++◌, ◌<◌, ◌∙◌, ◌∷◌, ◌||◌, ◌≡◌, ◌≤◌, ◌⊎◌, add-one, ap, arith, Bool, eq-eqb, eqb, eqb-false, eqb-true, false, inl, inr, le-leb, leb, leb-true, length, length-set, List, ltb, ltb-true, ne_eqb, refl, subst, sym, true, ℕ}
 use Rattle.cond.proofs.Tests.{both_hold}
 use Rattle.record.specs.declared.Record.{Record}
 use Rattle.runs.specs.declared.Run.{Run}
@@ -12,7 +12,7 @@ use Rattle.runs.proofs.Grown.{follows}
 use Rattle.runs.proofs.Possible.{NewestPossible, Possible, newest_of, possible_row}
 use Rattle.racks.specs.declared.Row.{Row}
 use Rattle.racks.specs.Calls.{Call, Table, after, call, empty, own_of, told}
-use Rattle.racks.specs.Rows.{After, added_to, is_of, is_rack, is_table, newest, newest_at, others, own, with_second, with_told}
+use Rattle.racks.specs.Rows.{After, added_to, is_of, is_rack, is_table, newest, newest_at, others, with_second, with_told}
 use Rattle.racks.proofs.Alone.{Alone, Rack, alone_full, alone_join, alone_open, alone_by, alone_on, alone_with, rack_by}
 use Rattle.racks.proofs.Answers.{added_none, added_told, with_full, with_join, with_open}
 use Rattle.racks.proofs.Own.{count, ends, follows_some, newest_at_lem}

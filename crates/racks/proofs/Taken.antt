@@ -11,7 +11,7 @@ use Rattle.runs.specs.Heard.{second_in}
 use Rattle.runs.specs.Rows.{longer, single}
 use Rattle.runs.proofs.Grown.{follows, grown}
 use Rattle.racks.specs.declared.Row.{Row}
-use Rattle.racks.specs.Calls.{Call, Opening, Table, in_use, opening_of, own_of, told}
+use Rattle.racks.specs.Calls.{Call, Opening, Table, in_use, opening_of, own_of}
 use Rattle.racks.specs.Rows.{After, added_to, is_refusal, newest, newest_at, no_row, row_at, with_second}
 use Rattle.racks.proofs.Answers.{added_none, added_told, with_full, with_join, with_open}
 use Rattle.racks.proofs.Own.{follows_some, newest_at_lem}

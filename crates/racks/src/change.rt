@@ -12,7 +12,7 @@ use runs::heard::{SecondIn, second_in};
 use runs::row::{is_row, joins};
 use runs::second::Second;
 
-#[derive(Drop)]
+#[derive(Clone, Copy)]
 pub struct Change {
     pub at: usize,
     pub row: Row,
@@ -20,7 +20,7 @@ pub struct Change {
 }
 
 // The rows of one rack: how many, where the newest stands, and the row there.
-#[derive(Drop)]
+#[derive(Clone, Copy)]
 pub struct RackRows {
     pub count: u32,
     pub at: usize,

@@ -1,4 +1,6 @@
 // The runs of heard seconds of two racks, as rows of one table of 64 rows that the caller lends.
+#![tactic(auto)]
+
 ghost use Rattle.std.specs.Prelude.{◌≡◌};
 ghost use Rattle.racks.specs.Rows.{added_to, outcome_number};
 
@@ -13,7 +15,7 @@ mod survey;
 
 // A run of one rack.
 #[repr(C)]
-#[derive(Drop)]
+#[derive(Clone, Copy)]
 pub struct Row {
     pub rack: u32,
     pub run: Run,
@@ -21,7 +23,7 @@ pub struct Row {
 
 // The newest run of the rack has the second, a row was opened for it, or it is refused: there is no such rack, the table is none, the
 // record tells no second, the rack has no row left.
-#[derive(Drop)]
+#[derive(Clone, Copy)]
 pub enum Outcome {
     Joined,
     Opened,
@@ -48,7 +50,7 @@ impl Outcome {
 }
 
 // What a call answers: what it did, and the number of rows in use.
-#[derive(Drop)]
+#[derive(Clone, Copy)]
 pub struct Added {
     pub outcome: Outcome,
     pub used: u32,

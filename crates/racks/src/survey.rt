@@ -4,7 +4,7 @@ ghost use Rattle.racks.specs.Changes.{looked_at, nothing_seen, seen_with};
 
 use crate::Row;
 
-#[derive(Drop)]
+#[derive(Clone, Copy)]
 pub struct Survey {
     pub others: bool,
     pub rows0: u32,

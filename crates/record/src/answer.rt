@@ -5,14 +5,14 @@ ghost use Rattle.record.specs.Answers.{read_number, read_record, write_number, w
 use crate::Record;
 use crate::refusal::Refusal;
 
-#[derive(Drop)]
+#[derive(Clone, Copy)]
 pub enum Reading {
     Read(Record),
     Refused(Refusal),
 }
 
 // The number of bytes written, at the head of the buffer.
-#[derive(Drop)]
+#[derive(Clone, Copy)]
 pub enum Writing {
     Written(usize),
     Refused(Refusal),

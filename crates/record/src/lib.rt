@@ -1,18 +1,20 @@
 // The record of a time string, the refusals, and the answers of readers and writers.
 // A field that was not sent is `Absent`, a case of its own that no number stands for.
+#![tactic(auto)]
+
 pub mod answer;
 pub mod range;
 pub mod refusal;
 pub mod sign;
 
-#[derive(Drop)]
+#[derive(Clone, Copy)]
 pub enum Date {
     Absent,
     Full { year: u32, month: u32, day: u32 },
     DayOfYear(u32),
 }
 
-#[derive(Drop)]
+#[derive(Clone, Copy)]
 pub enum Fraction {
     Absent,
     Thousandths(u32),
@@ -20,14 +22,14 @@ pub enum Fraction {
     Hundredths(u32),
 }
 
-#[derive(Drop)]
+#[derive(Clone, Copy)]
 pub enum Channel {
     Absent,
     Number(u32),
 }
 
 // A field that is yes or no.
-#[derive(Drop)]
+#[derive(Clone, Copy)]
 pub enum Flag {
     Absent,
     No,
@@ -35,14 +37,14 @@ pub enum Flag {
 }
 
 // Minutes of local time minus UTC.
-#[derive(Drop)]
+#[derive(Clone, Copy)]
 pub enum Offset {
     Absent,
     Minutes(i32),
 }
 
 // North and east positive: ten-thousandths of a degree, with metres, or hundredths of a minute. One is never turned into the other.
-#[derive(Drop)]
+#[derive(Clone, Copy)]
 pub enum Position {
     Absent,
     Degrees {
@@ -56,7 +58,7 @@ pub enum Position {
     },
 }
 
-#[derive(Drop)]
+#[derive(Clone, Copy)]
 pub struct Record {
     pub hour: u32,
     pub minute: u32,

@@ -6,12 +6,14 @@ use crate::sign::magnitude;
 use crate::{Channel, Date, Flag, Fraction, Offset, Position, Record};
 
 // Second 60 is a leap second.
+#[tactic(auto, unfolding(crate::specs::Record::time_in_range))]
 pub fn time_in_range(hour: u32, minute: u32, second: u32) -> bool
     ensures { result ≡ time_in_range hour minute second }
 {
     (hour < 24) & ((minute < 60) & (second <= 60))
 }
 
+#[tactic(auto, unfolding(crate::specs::Record::date_in_range))]
 pub fn date_in_range(date: Date) -> bool
     ensures { result ≡ date_in_range date }
 {
@@ -22,6 +24,7 @@ pub fn date_in_range(date: Date) -> bool
     }
 }
 
+#[tactic(auto, unfolding(crate::specs::Record::fraction_in_range))]
 pub fn fraction_in_range(fraction: Fraction) -> bool
     ensures { result ≡ fraction_in_range fraction }
 {
@@ -33,6 +36,7 @@ pub fn fraction_in_range(fraction: Fraction) -> bool
     }
 }
 
+#[tactic(auto, unfolding(crate::specs::Record::channel_in_range))]
 pub fn channel_in_range(channel: Channel) -> bool
     ensures { result ≡ channel_in_range channel }
 {
@@ -42,6 +46,7 @@ pub fn channel_in_range(channel: Channel) -> bool
     }
 }
 
+#[tactic(auto, unfolding(crate::specs::Record::offset_in_range))]
 pub fn offset_in_range(offset: Offset) -> bool
     ensures { result ≡ offset_in_range offset }
 {
@@ -51,6 +56,7 @@ pub fn offset_in_range(offset: Offset) -> bool
     }
 }
 
+#[tactic(auto, unfolding(crate::specs::Record::position_in_range))]
 pub fn position_in_range(position: Position) -> bool
     ensures { result ≡ position_in_range position }
 {
@@ -131,6 +137,7 @@ impl Record {
     }
 
     // The date is last, since it may need a look at the calendar's table.
+    #[tactic(auto, unfolding(crate::specs::Record::in_range))]
     pub fn in_range(self) -> bool
         ensures { result ≡ in_range self }
     {
@@ -141,6 +148,7 @@ impl Record {
     }
 
     // Summer time is no UTC.
+    #[tactic(auto, unfolding(crate::specs::Record::zone_agrees))]
     pub fn zone_agrees(self) -> bool
         ensures { result ≡ zone_agrees self }
     {
@@ -149,6 +157,7 @@ impl Record {
         !(utc.is_yes() & summer.is_yes())
     }
 
+    #[tactic(auto, unfolding(crate::specs::Record::is_good))]
     pub fn is_good(self) -> bool
         ensures { result ≡ is_good self }
     {

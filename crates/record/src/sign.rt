@@ -3,7 +3,7 @@ ghost use Rattle.std.specs.Prelude.{◌≡◌, nat_abs};
 ghost use Rattle.record.specs.Sign.{is_negative, signed_number};
 
 // Which numbers are told with a sign of 1.
-#[derive(Drop)]
+#[derive(Clone, Copy)]
 pub enum SignRule {
     // those below zero
     OneBelow,

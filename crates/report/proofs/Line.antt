@@ -1,14 +1,16 @@
 -- The parts of the last line, stored one behind the other, are the line stored whole.
-use Rattle.cond.proofs.Kit.{[], ◌++◌, ◌+◌, ◌<◌, ◌∙◌, ◌∷◌, ◌≡◌, ◌≤◌, ap, arith, Bool, drop, false, le-leb, leb, length, length-append, List, lt-leb, refl, sets-eq, sym, take, take_at, true, ℕ}
+use Rattle.cond.proofs.Kit.{[], ◌++◌, ◌+◌, ◌/◌, ◌<◌, ◌∙◌, ◌∷◌, ◌≡◌, ◌≤◌, ap, arith, Bool, drop, false, le-leb, leb, length, length-append, List, lt-leb, ltb, refl, sets-eq, suc, sym, take, take_at, true, zero, ℕ}
 use Rattle.cond.specs.Pick.{pick}
+use Rattle.cond.proofs.Tests.{either_way}
 use Rattle.spelling.specs.Bytes.{decimal, digit_of, text}
 use Rattle.spelling.proofs.Base.{spelled_length}
 use Rattle.spelling.specs.Stored.{stored}
 use Rattle.spelling.proofs.Stored.{stored_append, stored_in, stored_length}
 use Rattle.record.specs.declared.answer.Writing.{Writing}
 use Rattle.record.specs.declared.answer.Writing.TheVariants as writing
+use Rattle.record.specs.declared.refusal.Refusal.{Refusal}
 use Rattle.record.specs.declared.refusal.Refusal.TheVariants as refusal
-use Rattle.report.specs.Summary.{Ended, end_answer, end_line, places_of}
+use Rattle.report.specs.Summary.{Ended, end_answer, end_line, places_of, places_up_to}
 
 -- one part in front of the rest
 front : (v w o : List ℕ) (i j : ℕ) → i + length v ≡ j → i + length (v ++ w) ≤ length o → stored o i (v ++ w) ≡ stored (stored o i v) j w
@@ -85,3 +87,23 @@ module _ {bytes telegrams : ℕ} {w : Writing} {before after : List ℕ} (h : En
 
   pub ended_text : take n after ≡ end_line bytes telegrams
   ended_text = rw line_left (take_at (end_line bytes telegrams) (drop n before) n (sym size))
+
+-- where there is room for any line, none is refused
+places_few : (t n : ℕ) → places_up_to t n ≤ t
+unfolding places_up_to
+places_few zero n = omega arith
+places_few (suc t) n = either_way (ltb n 10) (λ e. rw e (omega arith)) (λ e. rw e (omega (arith, places_few t (n / 10))))
+
+line_most : (bytes telegrams : ℕ) → length (end_line bytes telegrams) ≤ 62
+unfolding places_of
+line_most bytes telegrams =
+    omega (arith, line_long bytes telegrams (places_of bytes) (places_of telegrams) refl refl [], places_few 20 bytes, places_few 20 telegrams)
+
+pub not_short : {bytes telegrams : ℕ} {w : Writing} {before after : List ℕ} → Ended bytes telegrams w before after → 62 ≤ length before
+    → {x : Refusal} → w ≡ writing.Refused x → ⊥
+unfolding end_answer
+not_short {bytes} {telegrams} {before = before} h room e =
+    let told : _ ≡ writing.Written (length (end_line bytes telegrams)) =
+    h.answer ∙ rw (le-leb (length (end_line bytes telegrams)) (length before) (omega (arith, line_most bytes telegrams))) in
+    let z : ◌≡◌ {A = ℕ} 0 1 = cc in
+    omega arith

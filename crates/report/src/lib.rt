@@ -1,5 +1,7 @@
 // A stream reported piece by piece: what its first line asks for, the records of a piece and what is
 // carried to the next one, and the last line.
+#![tactic(auto)]
+
 mod carry;
 mod piece;
 mod records;

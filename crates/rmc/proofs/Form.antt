@@ -1,5 +1,5 @@
 -- What the last tests of an RMC string come to: it tells minutes of arc and signs beside its record, and no weekday.
-use Rattle.cond.proofs.Kit.{◌&&◌, ◌≡◌, and-true, Bool, false, length, List, not, refl, true, ℕ}
+use Rattle.cond.proofs.Kit.{◌&&◌, ◌≡◌, and-true, Bool, length, List, refl, true, ℕ}
 use Rattle.record.specs.declared.Record.{Record}
 use Rattle.record.specs.Record.{date_time_in_range, fraction_in_range, position_in_range, zone_agrees}
 use Rattle.forms.specs.Carries.{carries_of}
@@ -22,7 +22,7 @@ module _ (s : List ℕ) where
   unfolding carries_of has values leap_consistent seconds_consistent signs_consistent sign_consistent decode_minutes zone_agrees decode_flag
   rest_of = and-true _
 
-  module _ (l : length s ≡ 65) (t : Bool) (h : t ≡ shape rmc_layout 0 s) (u : not t ≡ false) (q : checksums_hold rmc.checksums s (values_by rmc s) ≡ true)
+  module _ (l : length s ≡ 65) (t : Bool) (h : t ≡ shape rmc_layout 0 s) (u : t ≡ true) (q : checksums_hold rmc.checksums s (values_by rmc s) ≡ true)
       (r : Record) (e : r ≡ decode (carries rmc) (values_by rmc s)) where
     -- a to d tell the ranges, and z that no S or W stands on a zero
     pub reads : (a b c d z : Bool) → a ≡ date_time_in_range r → b ≡ fraction_in_range r.fraction → c ≡ position_in_range r.position

@@ -1,5 +1,5 @@
 -- The numbers of a second stay in their ranges, and what the rule of the next second asks.
-use Rattle.cond.proofs.Kit.{◌&&◌, ◌+◌, ◌<◌, ◌∙◌, ◌≡◌, ◌≤◌, arith, Bool, eqb, false, false≢true, leb, leb-true, ltb-true, not, not-false, not-true, sym, true, ℕ}
+use Rattle.cond.proofs.Kit.{◌&&◌, ◌+◌, ◌<◌, ◌∙◌, ◌≡◌, ◌≤◌, arith, Bool, eqb, false, false≢true, leb, leb-true, ltb-true, sym, true, ℕ}
 use Rattle.cond.specs.Pick.{pick}
 use Rattle.cond.proofs.Tests.{both}
 use Rattle.calendar.specs.Calendar.{day_number, is_date}
@@ -45,20 +45,20 @@ number_told false k h e = false≢true h
 
 -- the rule, test by test
 module _ (a b : Second) where
-  pub over_none : not (leb 59 a.second && eqb b.second 0) ≡ true → false ≡ over_minute a b
+  pub over_none : (leb 59 a.second && eqb b.second 0) ≡ false → false ≡ over_minute a b
   unfolding over_minute
-  over_none h = rw (not-true (leb 59 a.second && eqb b.second 0) h)
+  over_none h = rw h
 
-  pub over_told : (m n : ℕ) → not (leb 59 a.second && eqb b.second 0) ≡ false → m ≡ minute_of a → n ≡ minute_of b → eqb n (m + 1) ≡ over_minute a b
+  pub over_told : (m n : ℕ) → (leb 59 a.second && eqb b.second 0) ≡ true → m ≡ minute_of a → n ≡ minute_of b → eqb n (m + 1) ≡ over_minute a b
   unfolding over_minute
-  over_told m n h e f = rw (not-false (leb 59 a.second && eqb b.second 0) h, e, f)
+  over_told m n h e f = rw (h, e, f)
 
-  pub next_none : (x y : Bool) → x ≡ is_second a → y ≡ is_second b → not (x && y) ≡ true → false ≡ is_next a b
+  pub next_none : (x y : Bool) → x ≡ is_second a → y ≡ is_second b → (x && y) ≡ false → false ≡ is_next a b
   unfolding is_next
-  next_none x y p q h = rw (← p, ← q, not-true (x && y) h)
+  next_none x y p q h = rw (← p, ← q, h)
 
-  pub next_asked : (x y : Bool) → x ≡ is_second a → y ≡ is_second b → not (x && y) ≡ false → (is_second a ≡ true) × (is_second b ≡ true)
-  next_asked x y p q h = let k = both x y (not-false (x && y) h) in (sym p ∙ k.0, sym q ∙ k.1)
+  pub next_asked : (x y : Bool) → x ≡ is_second a → y ≡ is_second b → (x && y) ≡ true → (is_second a ≡ true) × (is_second b ≡ true)
+  next_asked x y p q h = let k = both x y h in (sym p ∙ k.0, sym q ∙ k.1)
 
   pub next_in_lem : (is_second a ≡ true) × (is_second b ≡ true) → in_minute a b ≡ true → true ≡ is_next a b
   unfolding is_next

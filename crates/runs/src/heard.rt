@@ -5,7 +5,7 @@ ghost use Rattle.runs.specs.Heard.{second_in};
 use crate::second::Second;
 use record::{Date, Record};
 
-#[derive(Drop)]
+#[derive(Clone, Copy)]
 pub enum SecondIn {
     Told(Second),
     NotTold,

@@ -1,4 +1,6 @@
 // Runs of heard seconds: which second is next, which second a record tells, and a run as a row of a table.
+#![tactic(auto)]
+
 pub mod heard;
 pub mod row;
 pub mod second;
@@ -7,7 +9,7 @@ use crate::second::Second;
 
 // Seconds that follow one another: the first, the last, and how many.
 #[repr(C)]
-#[derive(Drop)]
+#[derive(Clone, Copy)]
 pub struct Run {
     pub first: Second,
     pub last: Second,

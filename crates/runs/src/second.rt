@@ -7,7 +7,7 @@ use calendar::Day;
 
 // The year by its two digits.
 #[repr(C)]
-#[derive(Drop)]
+#[derive(Clone, Copy)]
 pub struct Second {
     pub yy: u32,
     pub month: u32,

@@ -1,4 +1,6 @@
 // The SAT string, form 10: `<STX>dd.mm.yy/w/hh:mm:ssxxxxuv<CR><LF><ETX>`.
+#![tactic(auto)]
+
 ghost use Rattle.std.specs.Prelude.{◌≡◌, drop, length, take};
 ghost use Rattle.forms.specs.Form.{Wrote, carries, read_by, values_by};
 ghost use Rattle.forms.specs.Required.{has_carried};

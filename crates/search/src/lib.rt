@@ -1,4 +1,6 @@
 // A search for the first valid string of a serial form in a lent slice.
+#![tactic(auto)]
+
 ghost use Rattle.std.specs.Prelude.{◌≡◌, ◌+◌, ◌≤◌, ◌<◌, length};
 ghost use Rattle.forms.specs.Valid.{end_of, length_of, record_in, start_of, valid_of};
 ghost use Rattle.stream.specs.Window.{window};

@@ -1,4 +1,6 @@
 // The serial strings by the numbers of their forms: an arm in each function for each line of `serialForms`, in its order.
+#![tactic(auto)]
+
 ghost use Rattle.std.specs.Prelude.{◌≡◌};
 ghost use Rattle.forms.specs.Forms.{WroteAs, form_kind_of, read_as, serial_forms};
 ghost use Rattle.forms.specs.Valid.{length_of};
@@ -9,7 +11,7 @@ use record::answer::{Reading, Writing};
 use record::refusal::Refusal;
 
 // The bytes of a form's strings, the byte that they start with and have nowhere else, and the one that they end with.
-#[derive(Drop)]
+#[derive(Clone, Copy)]
 pub struct Shape {
     pub length: usize,
     pub start: u8,

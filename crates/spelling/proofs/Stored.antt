@@ -1,5 +1,5 @@
 -- A store with room for its bytes is that of the library, one without changes nothing, and no store changes the length.
-use Rattle.cond.proofs.Kit.{[], ◌*◌, ◌++◌, ◌+◌, ◌-◌, ◌<◌, ◌^◌, ◌∙◌, ◌∷◌, ◌≡◌, ◌≤◌, arith, Bool, false, le-leb, le-mul_of_pos_right, leb, leb-false, leb-true, length, length-append, length-sets, List, lt-leb, not, not-false, not-true, refl, sets, sym, true, ℕ}
+use Rattle.cond.proofs.Kit.{[], ◌*◌, ◌++◌, ◌+◌, ◌-◌, ◌<◌, ◌^◌, ◌∙◌, ◌∷◌, ◌≡◌, ◌≤◌, arith, Bool, false, le-leb, le-mul_of_pos_right, leb, leb-false, leb-true, length, length-append, length-sets, List, lt-leb, refl, sets, sym, true, ℕ}
 use Rattle.cond.specs.Pick.{pick}
 use Rattle.cond.proofs.Tests.{either_way}
 use Rattle.spelling.specs.Stored.{stored, up_to}
@@ -57,8 +57,8 @@ room_behind n k w h =
 
 -- what the answer of `has_room` says
 module _ {t : Bool} {m n : ℕ} (e : t ≡ leb m n) where
-  pub room : not t ≡ false → m ≤ n
-  room h = leb-true m n (sym e ∙ not-false t h)
+  pub room : t ≡ true → m ≤ n
+  room h = leb-true m n (sym e ∙ h)
 
-  pub no_room : not t ≡ true → n < m
-  no_room h = leb-false m n (sym e ∙ not-true t h)
+  pub no_room : t ≡ false → n < m
+  no_room h = leb-false m n (sym e ∙ h)

@@ -1,7 +1,6 @@
 -- How numbers and words are spelled in bytes.
 use Rattle.std.specs.Prelude.{Bool, true, false, ◌&&◌, ◌||◌, List, [], ◌∷◌, ◌++◌, ℕ, zero, suc, ◌+◌, ◌-◌, ◌*◌, ◌/◌, ◌%◌, ◌^◌, min, leb, ltb, eqb, length, take, drop}
 use Prim.Native.Char.{code}
-use Prim.Native.String
 use Prim.Native.String.{String}
 use Rattle.std.specs.Int.Bits.{bit_xor}
 use Rattle.cond.specs.Pick.{one_if, pick}

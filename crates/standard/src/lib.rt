@@ -1,4 +1,6 @@
 // The Standard string, form 1: `<STX>D:dd.mm.yy;T:w;U:hh.mm.ss;uvxy<ETX>`.
+#![tactic(auto)]
+
 ghost use Rattle.std.specs.Prelude.{◌≡◌, true, ◌≤◌, length, take, drop};
 ghost use Rattle.forms.specs.Form.{Wrote, carries, read_by, values_by};
 ghost use Rattle.forms.specs.Required.{has_carried};

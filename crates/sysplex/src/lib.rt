@@ -1,4 +1,6 @@
 // The SYSPLEX-1 string, form 6: `<SOH>ddd:hh:mm:ssq<CR><LF>`.
+#![tactic(auto)]
+
 ghost use Rattle.std.specs.Prelude.{◌≡◌, length};
 ghost use Rattle.forms.specs.Form.{Wrote, carries, read_by, values_by};
 ghost use Rattle.forms.specs.Required.{has_carried};

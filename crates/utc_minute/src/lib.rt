@@ -1,6 +1,8 @@
 // An example over the library, to copy from: the minute of the day by UTC that a telegram tells.
 // A telegram tells local time, and only some forms send its offset from UTC. Where none was sent, none is made up: the answer is then absent,
 // also where the flag utc is yes. The library is used by its public functions, and the proofs rest on its contracts and theorems.
+#![tactic(auto)]
+
 ghost use Rattle.std.specs.Prelude.{true, ◌≡◌, ◌≤◌, ◌<◌, nat_abs};
 ghost use Rattle.record.specs.Record.{is_good};
 ghost use Rattle.utc_minute.specs.Minute.{minute_in, minute_told, utc_minute};

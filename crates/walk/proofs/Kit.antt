@@ -9,7 +9,7 @@ pub use native.Mathlib.Omega.{arith}
 pub use lib.Dec.{T, eqb, ltb}
 pub use lib.ListN.{get_or, length, length-set, set}
 pub use seplogic.Ra.Ura.{Ura}
-pub use seplogic.Ra.TreeShare.{full_share}
+pub use base.Fraction.{full_share}
 pub use mir.Syntax.{Ty, mut, named, ty_bool, ty_int, ty_ptr, ty_ref, w32, w64}
 pub use mir.Val.{Val, vint, vptr}
 pub use base.Logic.{SProp, emp, ent, fst∗, id⊢, sep, via}
@@ -17,10 +17,11 @@ pub use base.Fml.{GName, Lft, Share, fat, fauth, fbor, fdies, flft, fobor, fobs,
 pub use prog.Memory.{Memory}
 pub use prog.Routine.{Routine}
 pub use prog.Wp.{Calls, Env, Heap, Loops, Tables, WpFn, exits, next}
-pub use ghost.Atoms.{Atoms, sem}
+pub use ghost.Atoms.{Atoms}
+pub use types.Logic.{sem}
 pub use contract.Monad.{Fun, fact}
-pub use contract.Running.{given_of, tables}
-pub use types.Kit.{ !, ◌$◌, ◌∵◌, ◌⊛◌, ‵, Given, Go, Item, Post, Seq, Sq, Step, at_ret, await, by, done, drop, feq_l, fjoin, frame, fsplit, join, keep, later, move, pick, post, prop, qed, raw, rewrite, runs, some, split, suffices, use0, use1, use2, ⋆}
+pub use contract.Running.{tables}
+pub use types.Kit.{ !, ◌$◌, ◌∵◌, ◌⊛◌, ‵, Go, Item, Post, Seq, Sq, Step, at_ret, await, by, done, drop, feq_l, fjoin, frame, fsplit, join, keep, later, move, pick, post, prop, qed, raw, rewrite, runs, some, split, suffices, use0, use1, use2, ⋆}
 pub use types.Run.{Opds, addr, alloc0, alloc1, and_then, assigns, assigns_last, bin, enter, fld, forget, free0, free1, from, hop, init, land, lit, load, look, look_raw, no_more, of_opd, params1, pass0, pass1, returns, returns_within, stop, store, store_raw}
 pub use types.Part.{agg, look_in, sub, whole}
 pub use sound.WpLaws.{FmC, WpFn-mono, fm_of}

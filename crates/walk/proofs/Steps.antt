@@ -1,9 +1,10 @@
 -- Steps of a walk by hand over a function's statements: an early return, a `while`, a call of a function on plain values, and a local that is freed at the return.
-use Rattle.walk.proofs.Kit.{ !, [], ◌$◌, ◌∵◌, ◌∷◌, ◌≡◌, ◌⊛◌, ‵, ap, await, Bool, Calls, Clauses, done, drop, emp, Ended, ent, Env, fact, false, fat, FmC, forget, frame, free1, ftrue, full_share, heard, Is, Item, join, later, List, Loops, move, not, nothing, only, Opds, owns, pick, qed, raw, refl, says, sem, sep, Seq, some, split, SProp, Step, subst, sym, T, Triple, triple_of, true, type_at, Ura, use0, use1, Val, via, zero, ⋆, ℕ}
+use Rattle.walk.proofs.Outcomes.{fails, holds}
+use Rattle.walk.proofs.Kit.{ !, [], ◌$◌, ◌∵◌, ◌∷◌, ◌≡◌, ◌⊛◌, ‵, ap, await, Bool, Calls, Clauses, done, drop, emp, Ended, ent, Env, fact, false, fat, FmC, forget, frame, free1, ftrue, full_share, heard, Is, Item, join, later, List, Loops, move, nothing, only, Opds, owns, pick, qed, raw, refl, says, sem, sep, Seq, some, split, SProp, Step, subst, sym, T, Triple, triple_of, true, type_at, Ura, use0, use1, Val, via, zero, ⋆, ℕ}
 use mathlib.Core.Option as option
 use Prim.Native.Nat.{◌+◌}
 use mathlib.Core.WellFounded.{WellFounded}
-use mir.Syntax.{Body, Name, Opd as Operand, Place, Ty, block, call, cond, copy, exit, field, loop, place, seq, skip}
+use mir.Syntax.{Body, Callee, Opd as Operand, Place, Ty, block, call, cond, copy, exit, field, loop, place, seq, skip}
 use mir.Val.{vbool}
 use base.Logic.{ex_e, snd∗}
 use base.Fml.{Share, fdies, froom}
@@ -19,14 +20,6 @@ use denote.Steps.{facts}
 use denote.Triple.Call.{calls_at}
 use denote.Triple.Clauses.{AtExit, at_exit, closing, ensured, lasts}
 use denote.Triple.Entry.{Res}
-
-holds : (b : Bool) → T b → b ≡ true
-holds true h = refl
-holds false h = absurd h
-
-fails : (b : Bool) → T (not b) → b ≡ false
-fails true h = absurd h
-fails false h = refl
 
 -- what a function on plain values is passed is had for nothing
 pub plain_args : {M : Type 1} {𝓤 : Ura M} (𝓛 : Logic 𝓤) → (Rs : List RattleType) → Makess 𝓛 Rs (Ises Rs) → (a : Denots Rs) (vss : Valss Rs) → Are Rs (Ises Rs) a vss
@@ -90,7 +83,7 @@ module _ {M : Type 1} {𝓤 : Ura M} {𝓛 : Logic 𝓤} {K : Type 0} {Γ : List
   tested t {y = y} o held failed = first t $ branches t o (λ h. skips t $ record { prf = (held (holds y h)).prf }) (λ n. jumps t $ record { prf = (failed (fails y n)).prf })
 
   -- a call of a function on plain values: its arguments are had for nothing, and what comes back is its result, at the machine value of it, and what its clause says of it
-  pub asks : K → FmC 𝓤 H 𝓛.laws C → {f : Name} {xs : List Operand} {d : Place} {rest : Body} (T : Ended) (cl : Clauses 𝓤 T)
+  pub asks : K → FmC 𝓤 H 𝓛.laws C → {f : Callee} {xs : List Operand} {d : Place} {rest : Body} (T : Ended) (cl : Clauses 𝓤 T)
       → Triple 𝓤 (C f) (triple_of 𝓛 T.signature (closing 𝓛 T cl))
       → (x : (triple_of 𝓛 T.signature (closing 𝓛 T cl)).Ghost) → ent 𝓤 (emp 𝓤) ((triple_of 𝓛 T.signature (closing 𝓛 T cl)).pre x)
       → (vals : Res T.signature x.0.0 → Val) → Tells (type_at T.signature.result x.0.0) (Is (type_at T.signature.result x.0.0)) (λ r. vals r ∷ [])

@@ -4,7 +4,6 @@ use Rattle.cond.proofs.Tests.{both}
 use Rattle.calendar.specs.Answers.{date_of_day}
 use Rattle.calendar.specs.Calendar.{is_date, weekday_of}
 use Rattle.calendar.specs.declared.MonthDay.{MonthDay}
-use Rattle.calendar.specs.declared.MonthDay.TheVariants as MonthDay
 use Rattle.calendar.proofs.DayOfYear.{day_found, found_day}
 use Rattle.calendar.proofs.Ranges.{date_range, day_lt, ordinal_range, weekday_range}
 use Rattle.record.specs.declared.Date.{Date}

@@ -5,7 +5,6 @@ use Rattle.cond.specs.Pick.{pick}
 use Rattle.calendar.specs.Answers.{date_of_day}
 use Rattle.calendar.specs.Calendar.{day_of_year, weekday_of}
 use Rattle.calendar.specs.declared.MonthDay.{MonthDay}
-use Rattle.calendar.specs.declared.MonthDay.TheVariants as MonthDay
 use Rattle.record.specs.declared.Date.{Date}
 use Rattle.record.specs.declared.Date.TheVariants as DateIs
 use Rattle.forms.specs.Fields.Time.{follows}

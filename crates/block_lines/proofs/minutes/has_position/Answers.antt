@@ -1,0 +1,11 @@
+-- Each part of the test is a call, in the order of the layout.
+use Rattle.cond.proofs.Kit.{and_assoc, and-true}
+use Rattle.forms.specs.Places.{shape}
+use Rattle.block_lines.proofs.minutes.has_position.Goals as goal
+
+pub returns : goal.returns
+unfolding shape
+returns c = simp and_assoc
+    (simp (c.is_at-2.ensures, c.is_arc-2.ensures, c.digits_at-2.ensures, c.letter_at-2.ensures, c.is_at.ensures)
+    (simp (c.is_arc.ensures, c.digits_at.ensures, c.letter_at.ensures, c.text_at.ensures)
+    (simp (and_assoc, and-true))))

@@ -1,0 +1,14 @@
+-- The layout carries the full date alone.
+use Rattle.cond.proofs.Kit.{[]}
+use Rattle.forms.specs.Carries.{carries_of}
+use Rattle.forms.specs.Fields.Date.{full_date, has_date}
+use Rattle.forms.specs.Required.{has_carried}
+use Rattle.forms.specs.Places.{has}
+use Rattle.places.proofs.Chain.{flat}
+use Rattle.computime.proofs.has_carried.Goals as goal
+
+pub returns : goal.returns
+unfolding has_carried carries_of has
+returns c = let r = c.args.r in
+    simp c.has_full_date.ensures
+    (flat (has_date full_date r.date) [])

@@ -1,0 +1,18 @@
+-- The layout is stored in its pieces; a record that is stored has a weekday.
+use Rattle.cond.proofs.Kit.{refl, ◌∙◌}
+use Rattle.forms.specs.Carries.{carries_of}
+use Rattle.forms.specs.Places.{has}
+use Rattle.forms.specs.Serial.{erlangen}
+use Rattle.forms.specs.Encode.{encode}
+use Rattle.places.proofs.Weekday.{stored_weekday}
+use Rattle.erlangen.proofs.Pieces.{stores_pieces}
+use Rattle.erlangen.proofs.writer.store.Goals as goal
+
+pub store_date-requires : goal.store_date-requires
+unfolding carries_of has
+store_date-requires c = c.weekday_of.ensures ∙ stored_weekday erlangen _ _ c.requires refl
+
+pub returns : goal.returns
+unfolding carries_of has
+returns c = let a = c.args in
+    cc (stores_pieces (encode a.r) a.out.now)

@@ -1,9 +1,0 @@
--- The stores are those of the piece, place by place.
-use Rattle.places.specs.Stores.{stores}
-use borrow.Author.Rules.{rules}
-use Rattle.erlangen.proofs.writer.store_time.Statement.{statement}
-use Rattle.erlangen.proofs.writer.store_time.Tie as tie
-
-pub store_time_spec : {M : Type 1} → statement M
-unfolding stores
-store_time_spec = tie.close (tie.spec (λ c κs. search rules) (λ c. search rules) (λ c κs. search rules) (λ c. search rules) (λ c. cc))

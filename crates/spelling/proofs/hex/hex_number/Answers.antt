@@ -1,0 +1,26 @@
+-- The number so far is that of the bytes passed. It stays below 14 times the power of 16, since no byte has a value above 207.
+use Rattle.cond.proofs.Kit.{◌∙◌, arith, lit<, sym}
+use Rattle.spelling.specs.Bytes.{hex_value}
+use Rattle.spelling.proofs.Stored.{few, many}
+use Rattle.spelling.proofs.Steps.{room_most, spelt_all, spelt_next, spelt_none}
+use Rattle.spelling.proofs.hex.hex_number.Goals as goal
+
+pub returns-then-s-gt7 : goal.returns-then-s-gt7
+returns-then-s-gt7 c = many 7 _ _ 14 16 (lit< tt) (omega arith)
+
+pub loop-i-init : goal.loop-i-init
+loop-i-init c = spelt_none 14 16 hex_value _
+
+pub overflow_mul-n : goal.overflow_mul-n
+overflow_mul-n c = omega (arith, room_most 14 16 _ _ 6 (lit< tt) c.loop-i.invariant.room (omega arith))
+
+pub overflow_add-n : goal.overflow_add-n
+overflow_add-n c = omega (arith, room_most 14 16 _ _ 6 (lit< tt) c.loop-i.invariant.room (omega arith))
+
+pub loop-i-preserved : goal.loop-i-preserved
+loop-i-preserved c = let a = c.loop-i in
+    spelt_next 14 16 hex_value _ a.n a.i a.invariant _ (omega arith) (omega arith) c.hex_value.ensures.0
+
+pub returns : goal.returns
+returns c = let a = spelt_all 14 16 hex_value _ _ _ c.loop-i.invariant (omega arith) in
+    (a.0 ∙ sym (few 7 _ _ (omega arith)), a.1)
