@@ -24,7 +24,7 @@ so_linked := $(so).$(basename $(version))
 static := target/staticlib/liblindenscoop.a
 shared := target/sharedlib/$(so).$(version)
 command := $(or $(CARGO_TARGET_DIR),target/cargo)/release/lindenscoop
-proved := crates.txt $(shell find crates -type f -not -path '*/must-fail/*')
+proved := crates.txt $(shell find crates -type f -not -path '*/must-fail/*' -not -path '*/out/*')
 rust := Cargo.toml .cargo/config.toml $(shell find command bindings/rust -name '*.rs' -o -name Cargo.toml)
 module := $(notdir $(wildcard python/lindenscoop/*.py))
 described := read write search start feed feed_all mark full_year days_since_1980 add_second runs_clear runs_clear_rack second_date message
@@ -39,7 +39,7 @@ all: $(static) $(shared) $(command)
 $(static): $(proved)
 	@command -v rt >/dev/null || { printf '%s\n' 'make: the Rattle kit is needed to prove and build the library, and its command rt is not on PATH.' \
 	    'The kit comes from whoever supplies the Rattle compiler. Put its folder bin on PATH:  PATH=/where/the/kit/is/bin:$$PATH make' >&2; exit 1; }
-	rt staticlib lindenscoop
+	scripts/build lindenscoop_c
 	@touch $@
 
 $(shared): $(static) python/make-shared.sh bindings/c/exported.map Cargo.toml
@@ -99,6 +99,6 @@ dist:
 check:
 	.ci/run
 
-# With target/ go the proofs: the next make proves all again.
+# With crates/*/out go the proofs: the next make proves all again.
 clean:
-	rm -rf target lindenscoop-$(version).tar.gz
+	rm -rf target crates/*/out lindenscoop-$(version).tar.gz

@@ -5,7 +5,7 @@
     scripts/bench.py --long         heard over streams of 1 MB to 10 GB through a pipe: speed and memory
     scripts/bench.py --compare      only builds the C program and compares its answers with the library's, as every run does first
 
-It needs target/staticlib/liblindenscoop.a and target/bin/heard (rt staticlib lindenscoop; rt check heard), gcc, cargo and valgrind, and
+It needs target/staticlib/liblindenscoop.a and target/bin/heard (scripts/build lindenscoop_c; scripts/build heard), gcc, cargo and valgrind, and
 /usr/bin/time for --long. Instructions are counted by callgrind on 200 KB (100 KB with --quick), what a program does before and after left
 out. MB/s is the best of three runs and depends on the machine and on what else runs there. With --quick sparse streams and noise are
 for forms 1 and 3 only. The streams are of random records (reference/c/bench/streams.c).
@@ -56,7 +56,7 @@ def compile_c(name, sources, *flags):
 def build_c():
     for needed in (LIBRARY, HEARD["library"][0]):
         if not needed.exists():
-            sys.exit(f"bench: no {needed}; run `rt staticlib lindenscoop` and `rt check heard` first")
+            sys.exit(f"bench: no {needed}; run `scripts/build lindenscoop_c` and `scripts/build heard` first")
     MADE.mkdir(parents=True, exist_ok=True)
     compile_c("heard", ["heard.c"])
     compile_c("streams", ["bench/random.c", "bench/streams.c"])

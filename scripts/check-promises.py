@@ -99,9 +99,9 @@ def self_check(page):
     """Each fault planted into the page must be noticed."""
     faults = [
         ("`Demand3` in `crates/listener/specs/Demand3.antt`", "`Demand4` in `crates/listener/specs/Demand3.antt`"),
-        ("`demand-3` in `crates/listener/proofs/Demand3.antt`", "`demand-3` in `crates/listener/proofs/Demand4.antt`"),
-        ("`demand-3` in `crates/listener/proofs/Demand3.antt`", "the listener's proof"),
-        ("`demand-2` in `crates/forms/proofs/Demand2.antt`", "`bench` in `crates/forms/proofs/Bench.antt`"),
+        ("`demand_3` in `crates/listener/proofs/Demand3.antt`", "`demand_3` in `crates/listener/proofs/Demand4.antt`"),
+        ("`demand_3` in `crates/listener/proofs/Demand3.antt`", "the listener's proof"),
+        ("`demand_2` in `crates/forms/proofs/Demand2.antt`", "`bench` in `crates/forms/proofs/Bench.antt`"),
     ]
     missed = [old for old, new in faults if old not in page or not wrongs_of(page.replace(old, new))]
     for old in missed:

@@ -3,7 +3,7 @@
 
     scripts/sizes.py
 
-Needs a C compiler, binutils (size, objdump) and `rt staticlib lindenscoop`. The stack is found in two ways. Touched: each function is
+Needs a C compiler, binutils (size, objdump) and `scripts/build lindenscoop_c`. The stack is found in two ways. Touched: each function is
 called on a painted stack, with the accepted strings of vectors/, whole and with each byte damaged
 (bindings/c/tests/stack.c). At most: the frames of the machine code, along the deepest row of calls, with the 128 bytes below a
 frame that the compiler may use without asking. Both count the return address and a record that is handed over by value; neither counts

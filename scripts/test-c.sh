@@ -1,10 +1,10 @@
 #!/bin/sh
 # The interface for C programs, tested: the header's names and functions in C and C++, the example on logs, random calls under the
-# sanitizers. Needs `rt staticlib lindenscoop`. With REFERENCE=path of the reference program the expected CSVs are compared with it first.
+# sanitizers. Needs `scripts/build lindenscoop_c`. With REFERENCE=path of the reference program the expected CSVs are compared with it first.
 set -eu
 cd "$(dirname "$0")/.."
 lib=target/staticlib/liblindenscoop.a
-[ -f "$lib" ] || { echo "test-c: no $lib; run \`rt staticlib lindenscoop\` first" >&2; exit 1; }
+[ -f "$lib" ] || { echo "test-c: no $lib; run \`scripts/build lindenscoop_c\` first" >&2; exit 1; }
 include=bindings/c/include
 made=target/c
 mkdir -p "$made"

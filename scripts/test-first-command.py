@@ -4,7 +4,7 @@
     scripts/test-first-command.py                try it
     scripts/test-first-command.py --self-check   plant faults in copies of scripts/heard, and want each noticed
 
-The last test runs the proved program and needs `rt check heard`. The last line is 'N passed, M failed'.
+The last test runs the proved program and needs `scripts/build heard`. The last line is 'N passed, M failed'.
 """
 import concurrent.futures
 import os
@@ -24,7 +24,8 @@ SECONDS = 20
 TOOLS = "sh cat dirname readlink find head tail awk cksum date mkdir rm grep sleep bash cp chmod".split()
 # Prints what it was given, so that each byte that reached it is seen.
 PROGRAM = "#!/bin/sh\nexec cat\n"
-BUILD = 'mkdir -p target/bin; cp "$STAND_IN" target/bin/heard; chmod +x target/bin/heard\n'
+BUILD = 'mkdir -p out; cp "$STAND_IN" out/heard; chmod +x out/heard\n'
+BUILDER = (ROOT / "scripts/build").read_text(encoding="utf-8")
 
 
 def needed_crates():
@@ -44,14 +45,15 @@ def needed_crates():
 
 
 CRATES = needed_crates()
-PROVED = "".join(f"echo 'fn {name}::read: proved'; echo 'rt: {name} proved ({i} s)'\n" for i, name in enumerate(CRATES))
+PROVED = "".join(f"printf 'fn {name}::read: proved\\nlibrary {name}: modules loaded=1 checked=0\\ncrate {name}: modules loaded={i} checked=1\\n' >&2\n"
+                 for i, name in enumerate(CRATES))
 PROGRESS = [f"proved {i} of {len(CRATES)}: {name}" for i, name in enumerate(CRATES, 1)]
 
 
 class Place:
     """A repository with the script, sources that stand for the real ones, and a folder of tools with a stand-in for rt."""
 
-    def __init__(self, script, rt=PROVED + BUILD, program=PROGRAM):
+    def __init__(self, script, builder, rt=PROVED + BUILD, program=PROGRAM):
         self.folder = tempfile.TemporaryDirectory(prefix="first command ")
         self.home = pathlib.Path(self.folder.name)
         self.root = self.home / "a repository"
@@ -63,6 +65,9 @@ class Place:
         self.script = self.root / "scripts/heard"
         self.script.write_text(script)
         self.script.chmod(0o755)
+        self.builder = self.root / "scripts/build"
+        self.builder.write_text(builder)
+        self.builder.chmod(0o755)
         self.make_old()
         self.tools = self.home / "tools"
         self.tools.mkdir()
@@ -111,10 +116,10 @@ class Place:
 
 
 class Trial:
-    """The tests over one text of the script."""
+    """The tests over one text of the script, and one of the script that builds."""
 
-    def __init__(self, script):
-        self.script = script
+    def __init__(self, script, builder=BUILDER):
+        self.script, self.builder = script, builder
         self.passed, self.failures = 0, []
 
     def check(self, holds, what):
@@ -127,7 +132,7 @@ class Trial:
         self.check(found == expected, f"{what}: {found!r}, expected {expected!r}")
 
     def place(self, **more):
-        return Place(self.script, **more)
+        return Place(self.script, self.builder, **more)
 
     # ---- how it is called
 
@@ -147,7 +152,7 @@ class Trial:
             path = {**place.environment, "PATH": f"{place.home}/bin:{place.tools}", "CDPATH": str(place.home)}
             done = subprocess.run(["sh", "-c", "listen 1 a.log"], cwd=place.home, env=path, capture_output=True, timeout=SECONDS)
             self.same((done.returncode, done.stdout), (0, b"1\nbytes"), "a link on PATH")
-            self.same(place.called(), [f"{place.root} check heard"], "rt was called in the repository, once")
+            self.same(place.called(), [f"{place.root}/crates/heard run"], "rt was called in the crate, once")
 
     def test_pipes(self):
         with self.place() as place:
@@ -250,11 +255,11 @@ class Trial:
             self.same(place.run("1", given=b"bytes")[:2], (3, b""), "built, a source changed, and the kit is gone")
 
     def test_failures(self):
-        refused = "echo 'rt: cond proved (1 s)'; echo 'error: no proof of this'; echo 'rt: spelling NOT PROVED (exit 1, 2 s)'\n"
+        refused = "printf 'crate cond: modules loaded=0 checked=1\\nerror: no proof of this\\nfn spelling::read: not proved\\n' >&2\n"
         ways = {
             "not proved": refused + "exit 1", "bad crates.txt": "echo 'rt: crates.txt: bad' >&2; exit 2", "cannot tell": "exit 3",
-            "its run failed": PROVED + BUILD + "echo 'rt: heard proved, and its run FAILED (0 s)'; exit 1", "killed": BUILD + "kill -9 $$",
-            "no program": PROVED, "a program that cannot be run": PROVED + BUILD + "chmod -x target/bin/heard",
+            "its run failed": PROVED + BUILD + "echo refused=1; exit 1", "killed": BUILD + "kill -9 $$",
+            "no program": PROVED, "a program that cannot be run": PROVED + BUILD + "chmod -x out/heard",
         }
         for name, text in ways.items():
             with self.place(rt=text) as place:
@@ -264,8 +269,8 @@ class Trial:
                     self.check("not proved or not built" in error and "proved and built in" not in error, f"{name}: {error}")
                 self.same(len(place.called()), 2, f"{name}: rt was called")
                 if name == "not proved":
-                    self.check("error: no proof of this" in error and "NOT PROVED" in error, f"what is not proved is not said: {error}")
-                    self.check("rt: cond proved" not in error, "what is proved is said among the faults")
+                    self.check("error: no proof of this" in error and "not proved\n" in error, f"what is not proved is not said: {error}")
+                    self.check("crate cond" not in error, "what is proved is said among the faults")
                 if name == "bad crates.txt":
                     self.check("rt: crates.txt: bad" in error, f"what rt said on standard error is not told: {error}")
                     log = (place.root / "target/heard.log").read_text()
@@ -325,9 +330,10 @@ class Trial:
             self.check(re.search(r"(?m)^heard: proved and built in \d+ s$", error), f"its end is not said: {error}")
             self.check("\r" not in error and "\x1b" not in error and "fn " not in error, f"progress, not on a terminal: {error!r}")
             self.same(place.run("1", given=b"bytes"), (0, b"1\nbytes", ""), "the second time")
-        unchanged = PROVED.replace("(1 s)", "(unchanged since it was last proved)")
-        with self.place(rt=unchanged + BUILD + "echo 'rt: heard ran as nobody, and wrote what its file has (0 s)'") as place:
-            self.same(self.told(place.run("1")[2]), PROGRESS, "progress where a crate is unchanged")
+        fewer = PROVED.split("\n", 1)[1]
+        with self.place(rt=fewer + BUILD + "echo refused=1; echo 'rt: running out/heard' >&2") as place:
+            told = [line.split(": ")[1] for line in self.told(place.run("1")[2])]
+            self.same(told, CRATES[1:], "progress where a crate is unchanged")
 
     def test_progress_as_it_comes(self):
         """The stand-in waits after its first crate until that one was told."""
@@ -366,7 +372,7 @@ class Trial:
             changing = "".join(f"\r\x1b[K{line}" for line in PROGRESS)
             self.check(f"\n{changing}\r\n" in told, f"progress on a terminal: {told!r}")
             self.check(told.endswith(" s\r\n"), f"the last line on a terminal: {told!r}")
-        with self.place(rt="echo 'rt: cond proved (1 s)'; exit 1") as place:
+        with self.place(rt="echo 'crate cond: modules loaded=0 checked=1' >&2; exit 1") as place:
             status, out, told = self.on_terminal(place)
             self.check((status, out) == (1, b"") and f"{PROGRESS[0]}\r\nheard: not proved" in told, f"a failure on a terminal: {status} {told!r}")
 
@@ -390,7 +396,7 @@ class Trial:
     def test_with_the_proved_program(self):
         program = ROOT / "target/bin/heard"
         if not program.exists():
-            self.check(False, "no target/bin/heard; run `rt check heard` first")
+            self.check(False, "no target/bin/heard; run `scripts/build heard` first")
             return
         with self.place(program=program.read_bytes()) as place:
             expected = (ROOT / "tests/heard/sample.out").read_bytes()
@@ -406,7 +412,7 @@ class Trial:
         return self
 
 
-# Each is a text of the script and what a fault puts in its place.
+# Each is a text of the script, or of the one that builds, and what a fault puts in its place.
 FAULTS = [
     ('while [ -L "$name" ]; do', "while false; do"),
     ('name=$(dirname -- "$name")/$link', "name=$link"),
@@ -414,18 +420,20 @@ FAULTS = [
     ('cat <"$file"; fi', 'cat "$file"; fi'),
     ('[ ! -t 0 ] ||', "true ||"),
     ('[ ! -d "$file" ] ||', '[ -f "$file" ] ||'),
-    ("</dev/null 2>&1 3>&-", "2>&1 3>&-"),
-    ("</dev/null 2>&1 3>&-", "</dev/null 3>&-"),
+    ("rt run </dev/null", "rt run"),
+    ("heard 2>&1 3>&-", "heard 3>&-"),
+    ('rm -f "$root/target/bin/heard"', "true"),
     ("|| echo $? >&3; }", "|| echo 0 >&3; }"),
     ('|| [ ! -x "$program" ]; then', "; then"),
     ('rm -f "$proved"\n', ""),
     ('[ "$(cat "$proved")" = "$(cksum <"$program")" ]', "true"),
-    ('"$root/crates" -newer', '"$root/crates" -type f -newer'),
-    ('"$root/crates.txt" "$root/crates" -newer', '"$root/crates" -newer'),
+    ("[!o]* -newer", "[!o]* -type f -newer"),
+    ("[!o]* -newer", "* -newer"),
+    ('"$root/crates.txt" "$root"/crates', '"$root"/crates'),
     ("|| no_kit", "|| exit 3"),
     ("    exit 3\n", "    exit 0\n"),
-    ("'rt: '*' proved ('*)", "'rt: '*' proved'*)"),
-    ("'rt: '*' proved ('*)", "'rt: '*' s)')"),
+    ("'crate '*': modules loaded='*)", "*': modules loaded='*)"),
+    ("'crate '*': modules loaded='*)", "'crate '*': modules loaded=0 '*)"),
     ("if (seen[name]++) return", "seen[name]++"),
     ("printf '\\r\\033[K' >&2", "printf '\\n' >&2"),
     ("if [ ! -t 2 ]; then printf '\\n' >&2; fi", "printf '\\n' >&2"),
@@ -450,10 +458,11 @@ FAULTS = [
 
 
 def is_noticed(script, old, new):
-    if old not in script:
+    if old not in script and old not in BUILDER:
         print(f"test-first-command: no such text to plant a fault in: {old!r}")
         return False
-    if not Trial(script.replace(old, new)).run().failures:
+    texts = (script.replace(old, new), BUILDER) if old in script else (script, BUILDER.replace(old, new))
+    if not Trial(*texts).run().failures:
         print(f"test-first-command: not noticed: {new!r} for {old!r}")
         return False
     return True

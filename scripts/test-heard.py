@@ -164,7 +164,7 @@ def self_check():
 
 def main(words):
     if not HEARD.exists():
-        sys.exit("heard: no target/bin/heard; run `rt check heard` first")
+        sys.exit("heard: no target/bin/heard; run `scripts/build heard` first")
     if words == ["--self-check"]:
         return self_check()
     if len(words) == 2 and words[0] == "--reference":

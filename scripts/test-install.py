@@ -368,7 +368,7 @@ def test_rebuilding(_, __):
     crate = next((ROOT / "crates/lindenscoop/src").glob("*.rt")).relative_to(ROOT)
     for changed, proves, builds in (("crates.txt", True, True), (crate, True, True), ("command/src/main.rs", False, True), ("README.md", False, False)):
         told = make("-n", "-W", changed, "all").stdout
-        same(f"{changed} changed", ("rt staticlib lindenscoop" in told, "cargo build" in told), (proves, builds))
+        same(f"{changed} changed", ("scripts/build lindenscoop_c" in told, "cargo build" in told), (proves, builds))
     same("check", make("-n", "check").stdout, ".ci/run\n")
 
 
@@ -403,9 +403,9 @@ def test_dist(_, work):
 
 
 def fresh_tree(work):
-    """What somebody has who unpacked the archive: no target/, no repository."""
+    """What somebody has who unpacked the archive: no target/, no crates/*/out, no repository."""
     tree = work / "outer/tree"
-    shutil.copytree(ROOT, tree, ignore=shutil.ignore_patterns("target", ".git", "__pycache__", "*.tar.gz"), symlinks=True)
+    shutil.copytree(ROOT, tree, ignore=shutil.ignore_patterns("target", "out", ".git", "__pycache__", "*.tar.gz"), symlinks=True)
     return tree
 
 

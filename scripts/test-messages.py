@@ -4,7 +4,7 @@
     scripts/test-messages.py                compare them
     scripts/test-messages.py --self-check   plant a difference in each row of the table, and want it noticed in both
 
-Needs a C compiler, cargo and `rt staticlib lindenscoop`. Change a text in README.md, in lindenscoop_message of
+Needs a C compiler, cargo and `scripts/build lindenscoop_c`. Change a text in README.md, in lindenscoop_message of
 bindings/c/include/lindenscoop.h and in bindings/rust/src/refusal.rs together.
 """
 import os

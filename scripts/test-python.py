@@ -4,7 +4,7 @@ is found.
 
     scripts/test-python.py
 
-Needs a C compiler and `rt staticlib lindenscoop`. Its last line is 'N passed, M failed'.
+Needs a C compiler and `scripts/build lindenscoop_c`. Its last line is 'N passed, M failed'.
 """
 import ctypes
 import dataclasses

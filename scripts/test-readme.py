@@ -4,7 +4,7 @@
     scripts/test-readme.py PROGRAM                try them, with PROGRAM as the command lindenscoop
     scripts/test-readme.py PROGRAM --self-check   plant faults in copies of the text, and want each noticed
 
-Needs a C compiler, binutils, `rt staticlib lindenscoop` and `rt check heard`. The last line is 'N passed, M failed'.
+Needs a C compiler, binutils, `scripts/build lindenscoop_c` and `scripts/build heard`. The last line is 'N passed, M failed'.
 """
 import functools
 import importlib

@@ -1,6 +1,6 @@
 #!/bin/sh
 # The Rust crate: its tests with the examples of its documentation, its example program on the logs whose CSV is known, and what is said
-# where the library is missing. Needs `rt staticlib lindenscoop`.
+# where the library is missing. Needs `scripts/build lindenscoop_c`.
 set -eu
 cd "$(dirname "$0")/.."
 cargo test --quiet --offline -p lindenscoop
@@ -35,6 +35,6 @@ for name in frame block c37118; do
 done
 fails_with 'there is no form "radio"; the forms are standard (1), ' $example radio samples/standard.log
 fails_with 'sat (10), c37118 (11), rmc (12)' $example 15 samples/standard.log
-fails_with "Make it with:  cd $(pwd -P) && rt staticlib lindenscoop" \
+fails_with "Make it with:  cd $(pwd -P) && scripts/build lindenscoop_c" \
     env LINDENSCOOP_LIB_DIR="$empty" CARGO_TARGET_DIR="$empty" cargo build --quiet --offline -p lindenscoop
 echo "rust: errors say what to do"

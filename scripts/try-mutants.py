@@ -19,10 +19,9 @@ Listener.hears-all with its file.
 An edit passes only if all that it breaks is refused by an error of its own that states a fact: not for a name that is out of scope,
 not because something that it calls or cites is refused, and not because the proof no longer fits the code or a search met its bound.
 
-The crates must be proved. For each crate a room is made: a copy of it, links to all else, and what its proof left as the folder of
-`rt dev`, which then checks only what an edit changes. Edits of the bodies of different functions are tried in one run, since a proof
+The crates must be proved. For each crate a room is made: a copy of all crates, with what the crate's proof left in out/, so that
+`rt check` checks only what an edit changes. Edits of the bodies of different functions are tried in one run, since a proof
 sees no body but its own function's; what such a run does not settle is tried in smaller groups, and then alone.
-What `rt ci` said of an edit in must-fail is read from its log, where that is of the crate as it stands.
 A public function is one that another crate or C can reach. Edits of functions that only their own crate reaches count for the public
 functions that rest on them.
 """
@@ -39,7 +38,7 @@ import time
 sys.dont_write_bytecode = True
 sys.path.insert(0, os.path.dirname(os.path.abspath(__file__)))
 from mutants.edits import edits_of, groups_of
-from mutants.room import Room, are_proved, log_of_ci, name_of_kept
+from mutants.room import Room, are_proved
 from mutants.sample import SAMPLE, SAMPLE_EDITS
 from mutants.sources import Crate
 
@@ -72,17 +71,15 @@ def wrongs_of(room, edits):
     return wrongs
 
 
-def try_crate(name, root, kept_as):
+def try_crate(name, root):
     """The lines to print, and how many edits passed and failed."""
     crate = Crate(root, name)
     edits, lines = edits_of(crate)
     if not edits and not lines:
         return [], 0, 0
-    logs = {e: log_of_ci(e, root) for e in edits}
-    wrongs = {e: log.wrong_of(e) for e, log in logs.items() if log}
-    room, began = Room(crate, root, kept_as), time.time()
+    room, began = Room(crate, root), time.time()
     try:
-        wrongs |= wrongs_of(room, [e for e in edits if not logs[e]])
+        wrongs = wrongs_of(room, edits)
     finally:
         room.close()
     lines += [f"{e.label}: {wrong}" for e, wrong in wrongs.items() if wrong]
@@ -93,21 +90,21 @@ def try_crate(name, root, kept_as):
 
 def cost(root, name):
     """A measure of what a crate's mutants cost, to start with the dearest; a program leaves nothing to measure by, and stands on most."""
-    checked = glob.glob(f"{root}/target/rlib/{name}.rlib/toolchain/checked/*")
-    size = sum(map(os.path.getsize, checked)) if checked else 1 << 30
+    kept = glob.glob(f"{root}/crates/{name}/out/incremental/**/*", recursive=True)
+    size = sum(map(os.path.getsize, kept)) if kept else 1 << 30
     return size * (1 + len(glob.glob(f"{root}/crates/{name}/mutants/*.edit")))
 
 
 def try_all(root, crates):
     """Tries the edits of these crates, the dearest first, and returns how many passed and failed."""
-    if not are_proved(root, crates):
-        print("the crates are not proved: run `rt check` and mend what it says")
-        return 0, 1
-    kept_as, passed, failed = name_of_kept(root), 0, 0
     jobs = int(os.environ.get("MUTANT_JOBS", os.cpu_count() or 1))
+    if not are_proved(root, crates, jobs):
+        print("the crates are not proved: run `rt all check` and mend what it says")
+        return 0, 1
+    passed = failed = 0
     with concurrent.futures.ThreadPoolExecutor(jobs) as pool:
         order = sorted(crates, key=lambda c: cost(root, c), reverse=True)
-        for done in concurrent.futures.as_completed([pool.submit(try_crate, c, root, kept_as) for c in order]):
+        for done in concurrent.futures.as_completed([pool.submit(try_crate, c, root) for c in order]):
             lines, good, bad = done.result()
             print(*lines, sep="\n", end="\n" if lines else "", flush=True)
             passed, failed = passed + good, failed + bad
@@ -148,8 +145,8 @@ def self_check():
         for path, text in (SAMPLE | files).items():
             os.makedirs(os.path.dirname(f"{root}/{path}"), exist_ok=True)
             open(f"{root}/{path}", "w", encoding="utf-8").write(text)
-        subprocess.run(["rt", "check"], cwd=root, stdout=subprocess.DEVNULL, check=True)
-        lines, good, bad = try_crate("sample", root, name_of_kept(root))
+        subprocess.run(["rt", "check"], cwd=f"{root}/crates/sample", stdout=subprocess.DEVNULL, check=True)
+        lines, good, bad = try_crate("sample", root)
         if good != sum(words is None for _, _, words in SAMPLE_EDITS) or good + bad != len(SAMPLE_EDITS):
             print(f"{good} edits passed and {bad} failed: not all were tried")
             failed += 1

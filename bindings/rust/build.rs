@@ -1,4 +1,4 @@
-//! Links the static library: from LINDENSCOOP_LIB_DIR, or from target/staticlib of the repository, where `rt staticlib lindenscoop`
+//! Links the static library: from LINDENSCOOP_LIB_DIR, or from target/staticlib of the repository, where `scripts/build lindenscoop_c`
 //! puts it. Where there is none it says how to make it, since the linker's error does not.
 
 use std::env;
@@ -17,7 +17,7 @@ fn root() -> PathBuf {
 fn missing(library: &Path, root: &Path) -> ! {
     eprintln!("lindenscoop: there is no {}", library.display());
     eprintln!(
-        "Make it with:  cd {} && rt staticlib lindenscoop",
+        "Make it with:  cd {} && scripts/build lindenscoop_c",
         root.display()
     );
     eprintln!("or set LINDENSCOOP_LIB_DIR to the folder that has liblindenscoop.a.");

@@ -94,7 +94,7 @@ def _load() -> ctypes.CDLL:
         library = ctypes.CDLL(candidates[0])
     except OSError as error:
         raise ImportError(
-            f"lindenscoop: the shared library cannot be loaded ({error}). Make it with `rt staticlib lindenscoop` and "
+            f"lindenscoop: the shared library cannot be loaded ({error}). Make it with `scripts/build lindenscoop_c` and "
             "`python/make-shared.sh` in the repository, install it, or set LINDENSCOOP_LIBRARY to its path."
         ) from None
     for name, types in _FUNCTIONS.items():

@@ -48,8 +48,10 @@ class Crate:
         for kind in re.findall(r"(?m)^(?:pub )?(?:struct|enum) (\w+)", text):
             self.types[kind] = module
         self.open_modules |= {module + (m,) for m in re.findall(r"(?m)^pub mod (\w+);", text)}
-        for path in re.findall(r"(?m)^pub use ([\w:]+);", text):
-            self.handed_on.add(tuple(p for p in path.split("::") if p not in ("crate", "self")))
+        for path, group in re.findall(r"(?m)^pub use ([\w:]+)(?:\{([^{}]*)\})?;", text):
+            for item in group.split(",") if group else [""]:
+                parts = path.rstrip(":").split("::") + item.split()
+                self.handed_on.add(tuple(p for p in parts if p not in ("crate", "self")))
 
     def can_be_reached(self, module, item):
         """Whether another crate can name the item: every module above it is public, or it is handed on by `pub use`."""
