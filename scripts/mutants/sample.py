@@ -39,6 +39,7 @@ SAMPLE_EDITS = (
     ("spelling", "breaks: sample::seven\nold: result ≡ 7\nnew: result ≡ sevn", "not in scope"),
     ("below", "breaks: sample::eight\nold:     7\nnew:     6", "no error of its own"),
     ("shape", "old: next(seven())\nnew: seven() + 1", "no longer fits"),
+    ("needs", "old: next(seven())\nnew: next(7)", "no longer fits"),
     ("compiler", "old: next(seven())\nnew: nxt(seven())", "does not reach the prover"),
     ("contract", "old: result ≡ 8\nnew: result ≡ 9", None),
     ("several", "old: result ≡ 8\nnew: result ≡ 9\nold:     7\nnew:     6", "add 'breaks: NAME'"),

@@ -15,13 +15,14 @@ SHAPES = (
         "the proof no longer fits the code: change a number or a name, and no branch, call or loop",
     ),
     (
-        re.compile(r"no occurrence of the path's|no (equation of the list|part of the goal) .*instance"),
+        # An argument of type `T (..)` is a test that was computed: that it does not come out true is a fact.
+        re.compile(r"no occurrence of the path's|no (equation of the list|part of the goal) .*instance|settles argument (?!.* of type `T )"),
         "a rewrite finds no place, which shows nothing false: change something else",
     ),
     (re.compile(r"met a bound of its own|met the step limit"), "a search met its bound, which shows nothing false: change something else"),
 )
 # Goals that would be open beside any contract.
-SAFETY = re.compile(r"(overflow|slice_bounds|bounds|nonzero|shift|cast)[_-]")
+SAFETY = re.compile(r"(overflow|slice_bounds|offset_bounds|bounds|slice_copy_out|nonzero|shift|cast)[_-]")
 NO_ANSWER = "a sum or an index no longer fits, which says nothing of the answer: change what is answered"
 
 

@@ -1,6 +1,8 @@
 -- One read more: its bytes stand behind those carried, so that its report goes on with the run.
 use mathlib.Core.List.{flatten}
 use Rattle.cond.proofs.Kit.{[], ◌++◌, ◌+◌, ◌-◌, ◌<◌, ◌∷◌, ◌≡◌, ◌≤◌, append-nil, arith, drop, drop_at, length, length-append, length-take-le, List, refl, take, take-add, take-append-le, take_at, true, ℕ}
+use Rattle.std.proofs.Common.{Err, Ok, Result}
+use Rattle.std.specs.Prelude.{OnErr}
 use Rattle.std.specs.declared.option.Option.{Option}
 use Rattle.std.specs.Io.KnownBytes.{Appends, Consumes}
 use Rattle.std.proofs.KnownBytes.{Appends-nil, Appends-trans, Consumes-nil, Consumes-trans}
@@ -14,7 +16,7 @@ use Rattle.report.specs.declared.piece.PieceReport.TheVariants as piece
 use Rattle.report.proofs.Answered.{written_few, written_text}
 use Rattle.report.proofs.Whole.{flatten_more, whole_stream}
 use Rattle.heard.specs.Counted.{Counted}
-use Rattle.heard.specs.Listened.{Listened}
+use Rattle.heard.specs.Listened.{Listened, SomeTaken}
 
 -- y stands behind the first `a` bytes of x, and begins with the n bytes that a read brought
 pub brought : (a n : ℕ) (x y rest : List ℕ) → a ≤ length x → n ≤ length y → take (a + n) (take a x ++ (y ++ rest)) ≡ take a x ++ take n y
@@ -104,3 +106,15 @@ listened known i =
       heard = whole_stream known i.counted.run;
       size = i.counted.size;
     }
+
+pub some_taken : {left left' : Option (List ℕ)} (s : List ℕ) → Consumes left left' s → SomeTaken left left'
+some_taken s taken = record { stream = s; taken = taken }
+
+-- what was taken first, and what was taken then
+pub taken_more : {left left' left'' : Option (List ℕ)} (s : List ℕ) → Consumes left left' s → SomeTaken left' left'' → SomeTaken left left''
+taken_more s first then = record { stream = s ++ then.stream; taken = Consumes-trans _ _ _ _ _ first then.taken }
+
+-- a fact that holds whatever the answer is
+pub on_err : {T E P : Type 0} (r : Result T E) → P → OnErr r P
+on_err (Ok x) p = tt
+on_err (Err e) p = p

@@ -1,7 +1,7 @@
 // Prints the time strings of a stream on standard input: a first line with the form's number, then the stream.
 #![tactic(auto)]
 
-ghost use Rattle.std.specs.Prelude.{List, ◌≡◌, ℕ, ◌+◌, ◌-◌, ◌^◌, ◌/◌, ◌≤◌, ◌<◌, length, take, IfOk, OnOk, IfSome};
+ghost use Rattle.std.specs.Prelude.{List, ◌≡◌, ℕ, ◌+◌, ◌-◌, ◌^◌, ◌/◌, ◌≤◌, ◌<◌, length, take, IfOk, OnOk, OnErr, IfSome};
 ghost use Rattle.std.specs.Io.KnownBytes.{Appends, Consumes, IsAtEnd, ReadConsumes};
 ghost use Rattle.forms.specs.Valid.{length_of};
 ghost use Rattle.report.specs.Piece.{ReportedPiece, piece_in};
@@ -10,7 +10,7 @@ ghost use Rattle.report.specs.Summary.{end_line};
 ghost use Rattle.report.specs.declared.piece.PieceReport.TheVariants as piece;
 ghost use Rattle.heard.specs.Answer.{answer_to};
 ghost use Rattle.heard.specs.Counted.{Counted};
-ghost use Rattle.heard.specs.Listened.{Listened};
+ghost use Rattle.heard.specs.Listened.{Listened, SomeTaken};
 ghost use Rattle.heard.specs.Output.{Output};
 
 use record::answer::Writing;
@@ -54,11 +54,12 @@ fn read_some<R: Read>(reader: &mut R, part: &mut [u8]) -> io::Result<usize>
     reader.read(part)
 }
 
-// Reads until the part is full or the input ends.
+// Reads until the part is full or the input ends. Where a read fails, what was read before it is gone from the input.
 fn read_full<R: Read>(reader: &mut R, part: &mut [u8]) -> io::Result<usize>
     ensures inside { IfOk result (λ n. n ≤ length part.new) }
     ensures bytes { IfOk result (λ n. Consumes (R.remaining reader.old) (R.remaining reader.new) (take n part.new)) }
     ensures end { IfOk result (λ n. n < length part.new → IsAtEnd (R.remaining reader.new)) }
+    ensures err { OnErr result (SomeTaken (R.remaining reader.old) (R.remaining reader.new)) }
 {
     let mut done = 0;
     while done < part.len() {
@@ -71,7 +72,7 @@ fn read_full<R: Read>(reader: &mut R, part: &mut [u8]) -> io::Result<usize>
     Ok(done)
 }
 
-// All that the program writes goes through here.
+// All that the program writes goes through here. Of a write that fails, std does not say how much of the text went out.
 fn print<W: Write>(writer: &mut W, text: &[u8]) -> io::Result<()>
     requires { Output text.now }
     ensures { OnOk result (Appends (W.contents writer.old) (W.contents writer.new) text.now) }
@@ -79,7 +80,7 @@ fn print<W: Write>(writer: &mut W, text: &[u8]) -> io::Result<()>
     writer.write_all(text)
 }
 
-// All records of a piece go out in one write.
+// All records of a piece go out in one write. Where it fails, the buffers are as the report left them.
 fn print_piece<W: Write>(
     form: u32,
     carried: usize,
@@ -91,6 +92,7 @@ fn print_piece<W: Write>(
     requires { (0 < length_of form) × (length buffer.old ≤ length out.old / 11) }
     ensures reported { IfOk result (λ p. (bytes : ℕ) × ReportedPiece form carried got (piece.Written p.telegrams bytes p.carried) buffer.old out.old buffer.new out.new) }
     ensures told { OnOk result (Appends (W.contents writer.old) (W.contents writer.new) (printed (records_in form (piece_in carried got buffer.old)))) }
+    ensures err { OnErr result ((telegrams : ℕ) × (bytes : ℕ) × (k : ℕ) × ReportedPiece form carried got (piece.Written telegrams bytes k) buffer.old out.old buffer.new out.new) }
 {
     match report::report_piece(form, carried, got, buffer, out) {
         PieceReport::Written {
@@ -115,6 +117,7 @@ fn listen<R: Read, W: Write>(form: u32, reader: &mut R, writer: &mut W) -> io::R
     ensures counted { IfOk result (λ t. (carried : ℕ) × (buffer : List ℕ) × Counted form carried buffer t.bytes t.telegrams) }
     ensures listened { IfOk result (λ t. Listened form (R.remaining reader.old) (R.remaining reader.new) (W.contents writer.old) (W.contents writer.new) t.bytes t.telegrams) }
     ensures end { IfOk result (λ t. t.bytes < 2 ^ 64 - 65536 → IsAtEnd (R.remaining reader.new)) }
+    ensures err { OnErr result (SomeTaken (R.remaining reader.old) (R.remaining reader.new)) }
 {
     let mut buffer = input();
     let mut out = output();
@@ -159,7 +162,8 @@ fn finish<W: Write>(bytes: u64, telegrams: u64, writer: &mut W) -> io::Result<()
 
 // All that the program does. Where a read or a write failed the last line is not written either.
 fn run<R: Read, W: Write>(reader: &mut R, writer: &mut W) -> io::Result<()>
-    ensures { OnOk result (IfSome (R.remaining reader.old) (λ input. length input < 2 ^ 64 - 65536 → Appends (W.contents writer.old) (W.contents writer.new) (answer_to input))) }
+    ensures told { OnOk result (IfSome (R.remaining reader.old) (λ input. length input < 2 ^ 64 - 65536 → Appends (W.contents writer.old) (W.contents writer.new) (answer_to input))) }
+    ensures err { OnErr result (SomeTaken (R.remaining reader.old) (R.remaining reader.new)) }
 {
     let mut line = [0u8; 2];
     let n = read_full(reader, &mut line)?;

@@ -14,6 +14,7 @@ use record::Record;
 use record::answer::Writing;
 
 // Thousandths and a position in degrees do not serve: no kind is turned into another.
+#[tactic(auto, using(places::proofs::Chain::flat), unfolding(forms::specs::Required::has_carried, forms::specs::Carries::carries_of, forms::specs::Places::has))]
 fn has_carried(r: Record) -> bool
     ensures { result ≡ has_carried (carries rmc) r }
 {
@@ -43,6 +44,7 @@ fn store_time(r: Record, out: &mut [u8])
 }
 
 // `bbbb.bb,n,`
+#[tactic(auto, unfolding(places::specs::Stores::stores))]
 fn store_latitude(r: Record, out: &mut [u8])
     ensures { out.new ≡ stores latitude_layout 19 (encode r) out.old }
 {
@@ -56,6 +58,7 @@ fn store_latitude(r: Record, out: &mut [u8])
 }
 
 // `lllll.ll,e`
+#[tactic(auto, unfolding(places::specs::Stores::stores))]
 fn store_longitude(r: Record, out: &mut [u8])
     ensures { out.new ≡ stores longitude_layout 29 (encode r) out.old }
 {

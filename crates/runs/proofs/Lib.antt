@@ -1,5 +1,4 @@
 pub mod Seconds
-pub mod Tells
 pub mod Grown
 pub mod Maximal
 pub mod Possible

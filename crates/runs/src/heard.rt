@@ -12,6 +12,7 @@ pub enum SecondIn {
 }
 
 // Only a good record with a full date tells one.
+#[tactic(auto, unfolding(crate::specs::Heard::second_in))]
 pub fn second_in(r: Record) -> SecondIn
     ensures { result ≡ second_in r }
 {

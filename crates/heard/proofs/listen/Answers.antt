@@ -2,7 +2,7 @@
 use Rattle.cond.proofs.Kit.{◌+◌, ◌-◌, ◌≡◌, arith, refl, rules}
 use Rattle.serial.proofs.Lengths.{length_most, some_serial}
 use Rattle.report.proofs.Answered.{carried_short}
-use Rattle.heard.proofs.Counts.{few_telegrams, going_more, going_none, going_still, listened}
+use Rattle.heard.proofs.Counts.{few_telegrams, going_more, going_none, going_still, listened, on_err, some_taken, taken_more}
 use Rattle.heard.proofs.listen.Goals as goal
 use Rattle.heard.proofs.listen.Goals.{else-loop-left-test, then-loop-left-test+in_ok-got+then-got-eq0}
 
@@ -50,3 +50,6 @@ returns-clause-end g c =
       | then-loop-left-test+in_ok-got+then-got-eq0 w ↦ λ few.
           rw w.reader-is (w.in_ok-got.ensures.bytes.1 w.if-got-eq0.true (omega (arith, w.read_some.auto.part, length_most c.args.form)))
     ]
+
+pub returns-in_err-p-clause-err : goal.returns-in_err-p-clause-err
+returns-in_err-p-clause-err g c = on_err _ (taken_more _ c.loop-left.invariant.going.taken (some_taken _ c.in_ok-got.ensures.bytes.0))
