@@ -56,20 +56,20 @@ module _ {form carried : ℕ} (before y : List ℕ) {got telegrams size k : ℕ}
   pub few_telegrams : telegrams ≤ got
   few_telegrams = written_few h refl carried got small (rw behind (rw (length-append, piece_long, head_long)))
 
-  module _ {bytes count : ℕ} {left left' told told' : Option (List ℕ)} (i : Going form carried before bytes count left left' told told') where
-    counted_more : Counted form k buffer' (bytes + got) (count + telegrams)
-    counted_more =
-        let stands : take (carried + length (take got y)) (take carried before ++ (y ++ rest)) ≡ take carried before ++ take got y = rw piece_long behind in
-        let reported :
-        ReportedPiece form carried (length (take got y)) (piece.Written telegrams size k) (take carried before ++ (y ++ rest)) out buffer' out' =
-        rw piece_long h in
-        record {
-          pieces = i.counted.pieces ++ (take got y ∷ []);
-          text = i.counted.text ++ take size out';
-          run = one_more i.counted.run (take got y) stands reported;
-          size = rw (flatten_more, length-append, piece_long, i.counted.size);
-        }
+  pub counted_more : {bytes count : ℕ} → Counted form carried before bytes count → Counted form k buffer' (bytes + got) (count + telegrams)
+  counted_more i =
+      let stands : take (carried + length (take got y)) (take carried before ++ (y ++ rest)) ≡ take carried before ++ take got y = rw piece_long behind in
+      let reported :
+      ReportedPiece form carried (length (take got y)) (piece.Written telegrams size k) (take carried before ++ (y ++ rest)) out buffer' out' =
+      rw piece_long h in
+      record {
+        pieces = i.pieces ++ (take got y ∷ []);
+        text = i.text ++ take size out';
+        run = one_more i.run (take got y) stands reported;
+        size = rw (flatten_more, length-append, piece_long, i.size);
+      }
 
+  module _ {bytes count : ℕ} {left left' told told' : Option (List ℕ)} (i : Going form carried before bytes count left left' told told') where
     pub going_more : {left'' told'' : Option (List ℕ)} → Consumes left' left'' (take got y)
         → Appends told' told'' (printed (records_in form (piece_in carried got (take carried before ++ (y ++ rest)))))
         → Going form k buffer' (bytes + got) (count + telegrams) left left'' told told''
@@ -77,7 +77,7 @@ module _ {form carried : ℕ} (before y : List ℕ) {got telegrams size k : ℕ}
     going_more {told'' = told''} taken written =
         let w : Appends told' told'' (take size out') = rw (written_text h refl) written in
         record {
-          counted = counted_more;
+          counted = counted_more i.counted;
           taken = rw flatten_more (Consumes-trans _ _ _ _ _ i.taken taken);
           written = Appends-trans _ _ _ _ _ i.written w;
         }
