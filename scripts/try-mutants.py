@@ -13,8 +13,8 @@ Edits stand in crates/NAME/must-fail (`rt ci` tries these whole, too) and in cra
     new: Position::Absent => true
 
 An edit of the body or the contract of one function breaks that function, where no `breaks:` names another. In mutants the text may
-stand more than once in the file if it stands once in the body of a function that `breaks:` names. A law is named as hears-all, or
-Listener.hears-all with its file.
+stand more than once in the file if it stands once in the body of a function that `breaks:` names. A law is named as hears_all, or
+Listener.hears_all with its file.
 
 An edit passes only if all that it breaks is refused by an error of its own that states a fact: not for a name that is out of scope,
 not because something that it calls or cites is refused, and not because the proof no longer fits the code or a search met its bound.
