@@ -5,7 +5,7 @@
     scripts/check-promises.py --self-check   shows that a wrong name, a wrong file and a statement without a proof are noticed
 
 A declaration is, in a .antt file, a line that declares the name (a definition, theorem, data type, record or a field of one);
-in a .rt file, a function, enum, struct or constant of that name.
+in a .rt file, a function, enum, struct, trait, type or constant of that name.
 
 A statement is a record of a specs folder, or a field of one, that no contract cites: nothing but a proof makes it true. A row of the page that
 names one must name a proof in the same row: a declaration of a proofs folder whose type speaks of that record, or of one that has it in a field.
@@ -28,7 +28,7 @@ def text_of(path):
 def declares(path, name):
     word = re.escape(name)
     if path.endswith(".rt"):
-        return re.search(rf"(?m)^\s*(pub(\(crate\))? )?(const|enum|struct|fn|extern \"C\" fn) {word}\b", text_of(path))
+        return re.search(rf"(?m)^\s*(pub(\(crate\))? )?(const|enum|struct|trait|type|fn|extern \"C\" fn) {word}\b", text_of(path))
     return re.search(
         rf"(?m)^\s*((abbrev|unfoldable) )?(pub )?(data |record )?{word}(?= | \(|$)(?=.*[:]|\s*$|\s*\()", text_of(path)
     )

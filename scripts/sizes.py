@@ -21,8 +21,8 @@ LIBRARY = ROOT / "target/staticlib/liblindenscoop.a"
 NAMES = ("read", "write", "search", "start", "feed", "feed_all", "mark", "full_year", "days_since_1980", "add_rack_second")
 # those that take no record
 RAW = ("start", "mark", "full_year", "days_since_1980")
-# bytes that a record handed over by value takes of the stack, which is kept at multiples of 16
-BY_VALUE = {"add_rack_second": 128}
+# bytes of the stack, which is kept at multiples of 16, that a record handed over by value takes, or a seventh argument
+BY_VALUE = {"add_rack_second": 128, "search": 16, "feed_all": 16}
 
 
 def exported(name):
@@ -69,6 +69,9 @@ def bounds():
             frames[name] += 8
         elif match := re.search(r"\tsub +\$0x([0-9a-f]+),%rsp", line):
             frames[name] += int(match[1], 16)
+        # 128 bytes are taken by adding -128.
+        elif match := re.search(r"\tadd +\$0x(f{8}[0-9a-f]{8}),%rsp", line):
+            frames[name] += (1 << 64) - int(match[1], 16)
         elif re.search(r"\tcall +\*|\tsub +%\w+,%rsp|\tand +\$.*,%rsp", line):
             sys.exit(f"sizes: this is not understood: {line}")
         elif match := re.search(r"R_X86_64_PLT32\t(?:\.text\.)?(.*?)-0x4$", line):

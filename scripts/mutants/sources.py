@@ -4,6 +4,8 @@ import os
 import re
 
 HEADER = re.compile(r'^( *)(pub(?:\(\w+\))? )?(extern "C" )?fn (\w+)')
+# A block of an impl or a trait: the trait of an impl, with its arguments, and the type.
+BLOCK = re.compile(r"^(?:pub )?(impl|trait)(?:<[^>]*>)? (?:(\w+)(?:<([^>]*)>)? for )?(\w+)")
 CALL = re.compile(r"(\.)?(?:\b(\w+)::)?\b(\w+)\(")
 
 
@@ -14,6 +16,8 @@ class Function:
         self.name, self.public, self.exported, self.method = name, public, exported, method
         self.header = self.start = self.end = 0
         self.calls = set()
+        # The type of an impl of a trait: who names it reaches the method through the trait.
+        self.served = None
 
     def proof_folder(self):
         return "proofs/" + "/".join(self.name.split("::")[1:]) + "/"
@@ -36,8 +40,8 @@ class Crate:
         bodies = {f.name: (f, text[f.start : f.end]) for file, text in texts.items() for f in self.functions_of(file, text)}
         self.by_name = {name: function for name, (function, _) in bodies.items()}
         for function, body in bodies.values():
-            called = CALL.findall(body)
-            function.calls = {f.name for f in self.by_name.values() if any(f.is_called_by(c) for c in called)}
+            called, words = CALL.findall(body), set(re.findall(r"\w+", body))
+            function.calls = {f.name for f in self.by_name.values() if any(f.is_called_by(c) for c in called) or f.served in words}
 
     @staticmethod
     def module_of(file):
@@ -62,12 +66,16 @@ class Crate:
         at, owner, current, indent = 0, None, None, ""
         for line in text.split("\n"):
             end, header = at + len(line), HEADER.match(line)
-            if line.startswith("impl "):
-                owner = line.split()[1]
+            block = BLOCK.match(line)
+            if block:
+                owner = block.groups()
             elif header and not current:
                 indent = header.group(1)
                 current = self.function(header, self.module_of(file), owner if indent else None)
                 current.header = at
+            # A method that a trait asks for has no body here.
+            if current and not current.start and owner and owner[0] == "trait" and indent and line.endswith(";"):
+                current = None
             if current and not current.start and re.match(indent + r"\S.*[{}]$|" + indent + r"\{$", line):
                 current.start = at + line.index("{")
             if current and current.start and (line == indent + "}" or (header and line.endswith("}"))):
@@ -78,10 +86,15 @@ class Crate:
 
     def function(self, header, module, owner):
         public, exported, name = header.group(2) == "pub ", bool(header.group(3)), header.group(4)
+        kind, trait, arguments, item = owner or (None, None, None, None)
         if owner:
-            module = self.types.get(owner, module)
-        reached = public and (exported or self.can_be_reached(module, owner or name))
-        return Function("::".join((self.name, *module, *([owner] if owner else []), name)), reached, exported, bool(owner))
+            module = self.types.get(item, module)
+        # The prover names an impl by its type and its trait: U32FromRefusal.
+        block = "".join(word[:1].upper() + word[1:] for part in (item, trait, arguments) if part for word in re.findall(r"\w+", part)) if trait else item
+        reached = public and (exported or self.can_be_reached(module, item or name))
+        function = Function("::".join((self.name, *module, *([block] if block else []), name)), reached, exported, bool(owner))
+        function.served = item if trait else None
+        return function
 
     def bound_to(self, name):
         """The function, those that reach it by calls, and those that it reaches."""

@@ -1,9 +1,9 @@
 -- The answer of an edition of the block is what its lines come to one behind the other.
+use Rattle.std.specs.Prelude.{Option, None, Some, Err}
 use Rattle.cond.proofs.Kit.{[], ◌&&◌, ◌++◌, ◌+◌, ◌-◌, ◌<◌, ◌∙◌, ◌∷◌, ◌≡◌, ◌≤◌, add-one, ap, arith, Bool, drop, drop-cons, eqb, false, get_or, le-leb, length, List, not, not-true, refl, suc, sym, take, true, zero, ℕ}
 use Rattle.cond.specs.Pick.{pick}
 use Rattle.cond.proofs.Tests.{both, either_way}
 use Rattle.spelling.proofs.Stores.{lent_length}
-use Rattle.record.specs.declared.answer.Reading.TheVariants as reading
 use Rattle.record.specs.declared.refusal.Refusal.TheVariants as refusal
 use Rattle.forms.specs.Block.{Edition, Line, chosen_layout, variant_at, read_block, layout_at}
 use Rattle.forms.specs.Carries.{carries_of}
@@ -16,8 +16,6 @@ use Rattle.forms.proofs.Variants.{choices_at_lem, choices_at, nonempty, layout_a
 use Rattle.forms.proofs.Lines.{every_variant, every_line, layout_passes}
 use Rattle.forms.proofs.Tests.{no_checksum}
 use Rattle.block_lines.specs.Reading.{decoded, has_any, line_read}
-use Rattle.block_lines.specs.declared.state.Found.{Found}
-use Rattle.block_lines.specs.declared.state.Found.TheVariants as found
 use Rattle.block_lines.specs.declared.state.State.{State}
 use Rattle.block_lines.proofs.Closed.{in_reach, is_closed}
 use Rattle.block.specs.Reading.{nothing_decoded, onward, read_lines}
@@ -80,30 +78,32 @@ line_passes t [] i h b = absurd (omega (arith, b))
 line_passes t (l ∷ ls) zero h b = (both (t l) (every_line t ls) h).0
 line_passes t (l ∷ ls) (suc i) h b = line_passes t ls i (both (t l) (every_line t ls) h).1 (omega arith)
 
-line_within : (l : Line) (s : List ℕ) (b : State) (n : ℕ) (x : State) → is_closed_line l ≡ true → found.Line n x ≡ line_read l s b → n ≤ length s
-unfolding line_read
-line_within l s b n x h e =
-    either_way (shape (variant_at l 0 s) 0 s)
-    (λ q.
-    let c = both (nonempty l) (every_variant is_closed l) h in
-    let r = rw q at e in
-    let w : n ≡ layout_width (variant_at l 0 s) = cc in
-    omega (arith, in_reach (variant_at l 0 s) 0 s (found_passes is_closed l 0 s c.0 c.1) q))
-    (λ q. let r = rw q at e in absurd (let z : ◌≡◌ {A = ℕ} 0 1 = cc in omega arith))
+-- how many bytes the line has, 0 where there is none
+abbrev size_of : Option (ℕ × State) → ℕ
+size_of None = 0
+size_of (Some (n, b)) = n
 
-module _ (ls : List Line) (s : List ℕ) (at i : ℕ) (h : i < length ls) (b : State) (x : Found) (e : x ≡ line_read (get_or ls i []) (take (length s - at) (drop at s)) b) where
+line_within : (l : Line) (s : List ℕ) (b : State) → is_closed_line l ≡ true → size_of (line_read l s b) ≤ length s
+unfolding line_read
+line_within l s b h =
+    let c = both (nonempty l) (every_variant is_closed l) h in
+    either_way (shape (variant_at l 0 s) 0 s)
+    (λ q. rw q (omega (arith, in_reach (variant_at l 0 s) 0 s (found_passes is_closed l 0 s c.0 c.1) q)))
+    (λ q. rw q (omega arith))
+
+module _ (ls : List Line) (s : List ℕ) (at i : ℕ) (h : i < length ls) (b : State) (x : Option (ℕ × State)) (e : x ≡ line_read (get_or ls i []) (take (length s - at) (drop at s)) b) where
   turn : read_lines (drop i ls) s at b ≡ onward x (λ n y. read_lines (drop (i + 1) ls) s (at + n) y)
   unfolding read_lines
   turn =
       rw (add-one, drop-cons ls i [] h)
-      (ap (λ (y : Found). onward y (λ n y. read_lines (drop (suc i) ls) s (at + n) y)) (ap (λ (t : List ℕ). line_read (get_or ls i []) t b) (sym (lent_whole s at)) ∙ sym e))
+      (ap (λ (y : Option (ℕ × State)). onward y (λ n y. read_lines (drop (suc i) ls) s (at + n) y)) (ap (λ (t : List ℕ). line_read (get_or ls i []) t b) (sym (lent_whole s at)) ∙ sym e))
 
-  pub turn_wrong : x ≡ found.Nothing → read_lines (drop i ls) s at b ≡ reading.Refused refusal.WrongByte
-  turn_wrong q = turn ∙ ap (λ (y : Found). onward y (λ n y. read_lines (drop (i + 1) ls) s (at + n) y)) q
+  pub turn_wrong : x ≡ None → read_lines (drop i ls) s at b ≡ Err refusal.WrongByte
+  turn_wrong q = turn ∙ ap (λ (y : Option (ℕ × State)). onward y (λ n y. read_lines (drop (i + 1) ls) s (at + n) y)) q
 
-  pub turn_on : (n : ℕ) (y : State) → x ≡ found.Line n y → read_lines (drop i ls) s at b ≡ read_lines (drop (i + 1) ls) s (at + n) y
-  turn_on n y q = turn ∙ ap (λ (y : Found). onward y (λ n y. read_lines (drop (i + 1) ls) s (at + n) y)) q
+  pub turn_on : (n : ℕ) (y : State) → x ≡ Some (n, y) → read_lines (drop i ls) s at b ≡ read_lines (drop (i + 1) ls) s (at + n) y
+  turn_on n y q = turn ∙ ap (λ (y : Option (ℕ × State)). onward y (λ n y. read_lines (drop (i + 1) ls) s (at + n) y)) q
 
-  pub turn_within : every_line is_closed_line ls ≡ true → at ≤ length s → (n : ℕ) (y : State) → x ≡ found.Line n y → at + n ≤ length s
+  pub turn_within : every_line is_closed_line ls ≡ true → at ≤ length s → (n : ℕ) (y : State) → x ≡ Some (n, y) → at + n ≤ length s
   turn_within c l n y q =
-      omega (arith, line_within (get_or ls i []) _ b n y (line_passes is_closed_line ls i c h) (sym q ∙ e), lent_length s at)
+      omega (arith, ap size_of (sym q ∙ e), line_within (get_or ls i []) (take (length s - at) (drop at s)) b (line_passes is_closed_line ls i c h), lent_length s at)

@@ -1,19 +1,17 @@
 -- The lines of the yes or no fields: one law for their reader, over the key, the slot and the number of the line.
-use Rattle.cond.proofs.Kit.{[], ◌<◌, ◌∙◌, ◌≡◌, ◌≤◌, ap, ap₂, arith, Bool, drop, false, get_or, List, refl, sym, take, true, ℕ, ◌+◌, ◌∷◌, and-false, eq-eqb, length}
+use Rattle.std.specs.Prelude.{Option, Some}
+use Rattle.cond.proofs.Kit.{[], ◌∙◌, ◌≡◌, ap, ap₂, arith, Bool, drop, false, get_or, List, refl, sym, take, true, ℕ, ◌+◌, ◌∷◌, and-false, eq-eqb, length}
 use Prim.Native.String.{String}
 use Rattle.spelling.specs.Bytes.{same_bytes, text}
 use Rattle.spelling.specs.Spelling.{is_spelled, value_of, word}
 use Rattle.spelling.proofs.Spelling.{sized_value, spelled_parts}
 use Rattle.spelling.proofs.SameBytes.{same_bytes_lem}
 use Rattle.cond.proofs.Tests.{both, either_way}
-use Rattle.record.specs.declared.Flag.TheVariants as FlagIs
 use Rattle.forms.specs.Block.{block_lines, flag_line, variant_at}
 use Rattle.forms.specs.Places.{Layout, fixed, layout_width, part, shape, values}
 use Rattle.forms.specs.Slots.{Slot}
-use Rattle.block_lines.specs.Flags.{flag_read, flag_slot, flag_decoded}
+use Rattle.block_lines.specs.Flags.{flag_read, flag_decoded}
 use Rattle.block_lines.specs.Reading.{decoded, line_read, onto, word_layout}
-use Rattle.block_lines.specs.declared.state.Found.{Found}
-use Rattle.block_lines.specs.declared.state.Found.TheVariants as found
 use Rattle.block_lines.specs.declared.state.State.{State}
 
 -- one word alone is spelled where its bytes stand
@@ -34,8 +32,8 @@ word_value key m w s = value_of (word m w) (take (length w) (drop (length (text 
 abbrev DecodesFlag : String → Slot → List ℕ → State → Type 0
 DecodesFlag key f s b =
     (decoded_in (get_or (flag_line key f) 0 []) s b ≡ b)
-    × (word_value key 0 (text "no") s ≡ 0 → decoded_in (get_or (flag_line key f) 1 []) s b ≡ flag_decoded f FlagIs.No b)
-    × (word_value key 1 (text "yes") s ≡ 1 → decoded_in (get_or (flag_line key f) 2 []) s b ≡ flag_decoded f FlagIs.Yes b)
+    × (word_value key 0 (text "no") s ≡ 0 → decoded_in (get_or (flag_line key f) 1 []) s b ≡ flag_decoded f (Some false) b)
+    × (word_value key 1 (text "yes") s ≡ 1 → decoded_in (get_or (flag_line key f) 2 []) s b ≡ flag_decoded f (Some true) b)
 
 module _ (key : String) (f : Slot) (s : List ℕ) (b : State) (t : DecodesFlag key f s b) where
   no_shape : shape (word_layout (text key) (text "no")) 0 s ≡ shape (get_or (flag_line key f) 1 []) 0 s
@@ -53,8 +51,8 @@ module _ (key : String) (f : Slot) (s : List ℕ) (b : State) (t : DecodesFlag k
       sized_value x (word m w) (spelled_parts x (word m w) (both (is_spelled (word m w) x) _ (both (same_bytes (take (length (text key)) (drop 0 s)) (text key)) _ h).1).0).0
 
   -- the size by the word
-  sized : (ps : Layout) (n : ℕ) (x : State) → n ≡ layout_width ps → decoded_in ps s b ≡ x → found.Line n x ≡ found.Line (layout_width ps) (decoded_in ps s b)
-  sized ps n x e q = ap₂ found.Line e (sym q)
+  sized : (ps : Layout) (n : ℕ) (x : State) → n ≡ layout_width ps → decoded_in ps s b ≡ x → ◌≡◌ {A = Option (ℕ × State)} (Some (n, x)) (Some (layout_width ps, decoded_in ps s b))
+  sized ps n x e q = ap₂ (λ i z. Some (i, z)) e (sym q)
 
   flag_line_lem : flag_read (text key) f s b ≡ line_read (flag_line key f) s b
   unfolding flag_read line_read variant_at
@@ -68,19 +66,6 @@ module _ (key : String) (f : Slot) (s : List ℕ) (b : State) (t : DecodesFlag k
       go false p false q false r = simp (p, q, r, no_shape ∙ q, yes_shape ∙ r)
 
   -- line i, which has number j
-  pub flag_read_lem : (i j : ℕ) → i ≡ j → flag_slot j ≡ f → get_or block_lines j [] ≡ flag_line key f → (x : Found) → x ≡ flag_read (text key) (flag_slot i) s b
+  pub flag_read_lem : (i j : ℕ) → i ≡ j → get_or block_lines j [] ≡ flag_line key f → (x : Option (ℕ × State)) → x ≡ flag_read (text key) f s b
       → x ≡ line_read (get_or block_lines i []) s b
-  flag_read_lem i j e g l x h = h ∙ simp (e, g, l) flag_line_lem
-
--- the last line, as the last arm of a match is told
-abbrev NoneOf : ℕ → Type 0
-NoneOf i =
-    ((((((((((((Unit {0} × (i ≡ 0 → ⊥)) × (i ≡ 1 → ⊥)) × (i ≡ 2 → ⊥)) × (i ≡ 3 → ⊥)) × (i ≡ 4 → ⊥)) × (i ≡ 5 → ⊥)) × (i ≡ 6 → ⊥)) × (i ≡ 7 → ⊥)) × (i ≡ 8 → ⊥)) × (i ≡ 9 → ⊥)) × (i ≡ 10 → ⊥)) × (i ≡ 11 → ⊥)) × (i ≡ 12 → ⊥)
-
-above : (n i : ℕ) → n ≤ i → (i ≡ n → ⊥) → n < i
-above n i l h = omega arith
-
-pub last_line : (i : ℕ) → i < 14 → NoneOf i → i ≡ 13
-last_line i b h =
-    let low = above 12 i (above 11 i (above 10 i (above 9 i (above 8 i (above 7 i (above 6 i (above 5 i (above 4 i (above 3 i (above 2 i (above 1 i (above 0 i (omega arith) h.0.0.0.0.0.0.0.0.0.0.0.0.1) h.0.0.0.0.0.0.0.0.0.0.0.1) h.0.0.0.0.0.0.0.0.0.0.1) h.0.0.0.0.0.0.0.0.0.1) h.0.0.0.0.0.0.0.0.1) h.0.0.0.0.0.0.0.1) h.0.0.0.0.0.0.1) h.0.0.0.0.0.1) h.0.0.0.0.1) h.0.0.0.1) h.0.0.1) h.0.1) h.1 in
-    omega (arith, b, low)
+  flag_read_lem i j e l x h = h ∙ simp (e, l) flag_line_lem

@@ -1,10 +1,9 @@
 -- What the lines of a record's block come to: each flag's line, the whole layout, and the bytes of the form.
+use Rattle.std.specs.Prelude.{Option, None, Some, Bool, false}
 use Rattle.cond.proofs.Kit.{[], ◌++◌, ◌+◌, ◌∙◌, ◌≡◌, ◌≤◌, ap, append_assoc, arith, drop, get_or, le-leb, length, List, refl, sets-eq, String, sym, take, take_at, true, ℕ}
 use Rattle.spelling.specs.Bytes.{text}
 use Rattle.spelling.specs.Stored.{stored}
 use Rattle.spelling.proofs.Stored.{stored_in}
-use Rattle.record.specs.declared.Flag.{Flag}
-use Rattle.record.specs.declared.Flag.TheVariants as FlagIs
 use Rattle.record.specs.declared.Record.{Record}
 use Rattle.record.specs.Record.{is_good}
 use Rattle.forms.specs.Block.{block_of, choices, chosen_layout, first_edition, flag_line}
@@ -30,11 +29,11 @@ use Rattle.block.proofs.Lent.{stores_same}
 -- the line of a yes or no field
 module _ (key : String) (f : Slot) where
   -- its word is stored as fixed bytes are
-  pub flag_laid : (x : Flag) (v : Values) (n : ℕ) (o a : List ℕ) → Laid (word_layout (text key) (flag_text x)) v n o a → Laid (get_or (flag_line key f) (flag_choice x) []) v n o a
+  pub flag_laid : (x : Option Bool) (v : Values) (n : ℕ) (o a : List ℕ) → Laid (word_layout (text key) (flag_text x)) v n o a → Laid (get_or (flag_line key f) (flag_choice x) []) v n o a
   unfolding stores layout_width
-  flag_laid FlagIs.Absent v n o a h = h
-  flag_laid FlagIs.No v n o a h = h
-  flag_laid FlagIs.Yes v n o a h = h
+  flag_laid None v n o a h = h
+  flag_laid (Some false) v n o a h = h
+  flag_laid (Some true) v n o a h = h
 
 module _ (r : Record) where
   -- the values that the form writes are the record's: it has no sum

@@ -1,7 +1,7 @@
 -- A layout with no weekday, TFOM, deleted second, leap second or seconds of the day is validated by what its lines told.
+use Rattle.std.specs.Prelude.{Ok, Err}
 use Rattle.cond.proofs.Kit.{◌&&◌, ◌≡◌, and-true, false, List, ltb, ℕ}
 use Rattle.cond.specs.Pick.{pick}
-use Rattle.record.specs.declared.answer.Reading.TheVariants as reading
 use Rattle.record.specs.declared.refusal.Refusal.TheVariants as refusal
 use Rattle.record.specs.Record.{in_range, zone_agrees}
 use Rattle.forms.specs.Carries.{carries_of}
@@ -28,4 +28,4 @@ module _ (ps : Layout) (s : List ℕ) (w : has ps weekday ≡ false) (q : has ps
   pub plain_validated : validated (carries_of ps) (values ps 0 s) ≡ validated_state (decoded ps (values ps 0 s))
   unfolding validated validated_state decoded signs_consistent
   plain_validated =
-      λ i. pick (plain_ranges i) (pick (plain_consistent i) (reading.Read (decode (carries_of ps) (values ps 0 s))) (reading.Refused refusal.Disagreement)) (reading.Refused refusal.OutOfRange)
+      λ i. pick (plain_ranges i) (pick (plain_consistent i) (Ok (decode (carries_of ps) (values ps 0 s))) (Err refusal.Disagreement)) (Err refusal.OutOfRange)

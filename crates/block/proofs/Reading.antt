@@ -1,9 +1,10 @@
 -- Lines read one behind the other are the layout found in the bytes: each line adds to the layout so far, and to what it tells.
+use Rattle.std.specs.Prelude.{Option, None, Some, Result, Err}
+use Rattle.record.specs.declared.Record.{Record}
+use Rattle.record.specs.declared.refusal.Refusal.{Refusal}
 use Rattle.cond.proofs.Kit.{[], ◌&&◌, ◌++◌, ◌+◌, ◌∙◌, ◌∷◌, ◌≡◌, ap, append_assoc, append-nil, ap₂, arith, Bool, drop, eqb, false, fun_ext, get_or, length, List, refl, sym, true, ℕ}
 use Rattle.cond.specs.Pick.{pick}
 use Rattle.cond.proofs.Tests.{both}
-use Rattle.record.specs.declared.answer.Reading.{Reading}
-use Rattle.record.specs.declared.answer.Reading.TheVariants as reading
 use Rattle.record.specs.declared.refusal.Refusal.TheVariants as refusal
 use Rattle.forms.specs.Block.{Line, variant_at, layout_at}
 use Rattle.forms.specs.Places.{Layout, layout_width, shape, values}
@@ -11,8 +12,6 @@ use Rattle.forms.proofs.Append.{shape_append, width_append}
 use Rattle.forms.proofs.Variants.{nonempty}
 use Rattle.forms.proofs.Lines.{every_line}
 use Rattle.block_lines.specs.Reading.{decoded, has_any, line_read, onto}
-use Rattle.block_lines.specs.declared.state.Found.{Found}
-use Rattle.block_lines.specs.declared.state.Found.TheVariants as found
 use Rattle.block_lines.specs.declared.state.State.{State}
 use Rattle.block.specs.Reading.{onward, read_lines, validated_state}
 use Rattle.block.proofs.Columns.{variant_head, shape_head, values_head}
@@ -23,17 +22,17 @@ use Rattle.block.proofs.Once.{apart_here, clear, clear_next, rest_once, placed_o
 abbrev pub decoded_by : Layout → List ℕ → State
 decoded_by ps s = decoded ps (values ps 0 s)
 
-abbrev wrong : Reading
-wrong = reading.Refused refusal.WrongByte
+abbrev wrong : Result Record Refusal
+wrong = Err refusal.WrongByte
 
 -- the answer where the layout takes all bytes
-abbrev pub whole : Layout → List ℕ → Reading
+abbrev pub whole : Layout → List ℕ → Result Record Refusal
 whole ps s = pick (eqb (layout_width ps) (length s)) (validated_state (decoded_by ps s)) wrong
 
 -- a line at a column
 line_at : (l : Line) (k : ℕ) (s : List ℕ) (b : State)
     → line_read l (drop k s) b
-    ≡ pick (shape (variant_at l k s) k s) (found.Line (layout_width (variant_at l k s)) (onto (variant_at l k s) (decoded (variant_at l k s) (values (variant_at l k s) k s)) b)) found.Nothing
+    ≡ pick (shape (variant_at l k s) k s) (Some (layout_width (variant_at l k s), onto (variant_at l k s) (decoded (variant_at l k s) (values (variant_at l k s) k s)) b)) None
 unfolding line_read
 line_at l k s b =
     let v : values (variant_at l k s) k s ≡ values (variant_at l k s) 0 (drop k s) = fun_ext (values_head k s (variant_at l k s)) in
@@ -56,7 +55,7 @@ module _ (l : Line) (ls : List Line) (ps : Layout) (s : List ℕ) where
   one_more : ((n : ℕ) → has_any found_layout (get_or groups n []) ≡ true → has_any ps (get_or groups n []) ≡ false) → Read ls (ps ++ found_layout) s → Read (l ∷ ls) ps s
   unfolding read_lines layout_at
   one_more a h =
-      ap (λ (x : Found). onward x (λ n b. read_lines ls s (layout_width ps + n) b)) (line_at l (layout_width ps) s (decoded_by ps s)) ∙ go (shape found_layout (layout_width ps) s)
+      ap (λ (x : Option (ℕ × State)). onward x (λ n b. read_lines ls s (layout_width ps + n) b)) (line_at l (layout_width ps) s (decoded_by ps s)) ∙ go (shape found_layout (layout_width ps) s)
       ∙ ap (λ (t : Bool). pick t (whole (ps ++ (found_layout ++ behind)) s) wrong) (sym (shape_append found_layout behind (layout_width ps) s))
     where
       w : layout_width (ps ++ found_layout) ≡ layout_width found_layout + layout_width ps
@@ -73,7 +72,7 @@ module _ (l : Line) (ls : List Line) (ps : Layout) (s : List ℕ) where
           ∙ ap (λ (qs : Layout). pick (shape behind (layout_width found_layout + layout_width ps) s) (whole qs s) wrong) (append_assoc ps found_layout behind)
 
       go : (t : Bool)
-          → onward (pick t (found.Line (layout_width found_layout) (onto found_layout (decoded found_layout (values found_layout (layout_width ps) s)) (decoded_by ps s))) found.Nothing) (λ n b. read_lines ls s (layout_width ps + n) b)
+          → onward (pick t (Some (layout_width found_layout, onto found_layout (decoded found_layout (values found_layout (layout_width ps) s)) (decoded_by ps s))) None) (λ n b. read_lines ls s (layout_width ps + n) b)
           ≡ pick (t && shape behind (layout_width found_layout + layout_width ps) s) (whole (ps ++ (found_layout ++ behind)) s) wrong
       go true = fitting
       go false = refl

@@ -5,15 +5,15 @@ ghost use Rattle.block_lines.specs.Reading.{line_read};
 
 use block_lines::channel::read_channel;
 use block_lines::date::read_date;
-use block_lines::flag::read_flag;
+use block_lines::flag::{Flag, read_flag};
 use block_lines::fraction::read_fraction;
 use block_lines::offset::read_offset;
 use block_lines::position::read_position;
-use block_lines::state::{Found, State};
+use block_lines::state::State;
 use block_lines::time::read_time;
 
 // Line i at the head of a lent part, behind lines that told `before`.
-pub(crate) fn read_line(i: usize, s: &[u8], before: State) -> Found
+pub(crate) fn read_line(i: usize, s: &[u8], before: State) -> Option<(usize, State)>
     requires { i < 14 }
     ensures { result ≡ line_read (get_or block_lines i []) s.now before }
 {
@@ -22,15 +22,15 @@ pub(crate) fn read_line(i: usize, s: &[u8], before: State) -> Found
         1 => read_time(s, before),
         2 => read_fraction(s, before),
         3 => read_channel(s, before),
-        4 => read_flag(i, b"sync=", s, before),
-        5 => read_flag(i, b"fix=", s, before),
-        6 => read_flag(i, b"utc=", s, before),
-        7 => read_flag(i, b"summer=", s, before),
-        8 => read_flag(i, b"change=", s, before),
-        9 => read_flag(i, b"leap=", s, before),
+        4 => read_flag(Flag::Sync, b"sync=", s, before),
+        5 => read_flag(Flag::Fix, b"fix=", s, before),
+        6 => read_flag(Flag::Utc, b"utc=", s, before),
+        7 => read_flag(Flag::Summer, b"summer=", s, before),
+        8 => read_flag(Flag::Change, b"change=", s, before),
+        9 => read_flag(Flag::Leap, b"leap=", s, before),
         10 => read_offset(s, before),
         11 => read_position(s, before),
-        12 => read_flag(i, b"dsp=", s, before),
-        _ => read_flag(i, b"lsp=", s, before),
+        12 => read_flag(Flag::Dsp, b"dsp=", s, before),
+        _ => read_flag(Flag::Lsp, b"lsp=", s, before),
     }
 }

@@ -5,29 +5,29 @@ ghost use Rattle.block.specs.Reading.{nothing_decoded, read_lines};
 ghost use Rattle.block.specs.Reading.{validated_state};
 
 use crate::line::read_line;
-use block_lines::state::{Found, State};
+use block_lines::state::State;
 use record::Record;
-use record::answer::Reading;
 use record::refusal::Refusal;
 
 // The last two tests: a number outside its range, and parts that disagree.
-fn validate(state: State) -> Reading
+#[tactic(auto, unfolding(crate::specs::Reading::validated_state))]
+fn validate(state: State) -> Result<Record, Refusal>
     ensures { result ≡ validated_state state }
 {
-    let r = state.known;
-    if r.in_range() & (state.arc & (state.minutes < 60)) {
-        if (state.zone & state.place) & r.zone_agrees() {
-            Reading::Read(r)
+    let told = state.known;
+    if told.in_range() & (state.arc & (state.minutes < 60)) {
+        if (state.zone & state.place) & told.zone_agrees() {
+            Ok(told)
         } else {
-            Reading::Refused(Refusal::Disagreement)
+            Err(Refusal::Disagreement)
         }
     } else {
-        Reading::Refused(Refusal::OutOfRange)
+        Err(Refusal::OutOfRange)
     }
 }
 
 // A wrong line ends the reading, and so do bytes that are left behind the last one.
-fn read_lines(s: &[u8]) -> Reading
+fn read_lines(s: &[u8]) -> Result<Record, Refusal>
     ensures { result ≡ read_lines block_lines s.now 0 nothing_decoded }
 {
     let mut state = State {
@@ -38,30 +38,31 @@ fn read_lines(s: &[u8]) -> Reading
         arc: true,
     };
     let mut at = 0;
-    let mut i = 0;
-    while i < 14 {
-        let found = read_line(i, &s[at..], state);
-        let Found::Line(n, next) = found else {
-            return Reading::Refused(Refusal::WrongByte);
+    for i in 0..14 {
+        let Some((size, next)) = read_line(i, &s[at..], state) else {
+            return Err(Refusal::WrongByte);
         };
-        at += n;
+        at += size;
         state = next;
-        i += 1;
     }
     if at != s.len() {
-        return Reading::Refused(Refusal::WrongByte);
+        return Err(Refusal::WrongByte);
     }
     validate(state)
 }
 
-pub fn read(s: &[u8]) -> Reading
+/// Reads a block: its record, or the first refusal of a length outside 118 to 174 bytes, a byte that no line has, a number outside its
+/// range, and lines that disagree.
+#[tactic(auto, using(crate::proofs::Answers::read_block_lem, crate::proofs::First::readable, crate::proofs::First::too_long, crate::proofs::First::too_short_lem))]
+#[inline(never)]
+pub fn read(s: &[u8]) -> Result<Record, Refusal>
     ensures { result ≡ read_block first_edition s.now }
 {
     if s.len() < 118 {
-        return Reading::Refused(Refusal::WrongLength);
+        return Err(Refusal::WrongLength);
     }
     if 174 < s.len() {
-        return Reading::Refused(Refusal::WrongLength);
+        return Err(Refusal::WrongLength);
     }
     read_lines(s)
 }

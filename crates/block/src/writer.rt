@@ -8,13 +8,12 @@ ghost use Rattle.block.specs.Lines.{Put, lines_of};
 
 use block_lines::channel::write_channel;
 use block_lines::date::write_date;
-use block_lines::flag::write_flag;
+use block_lines::flag::{Flag, write_flag};
 use block_lines::fraction::write_fraction;
 use block_lines::offset::write_offset;
 use block_lines::position::write_position;
 use block_lines::time::write_time;
 use record::Record;
-use record::answer::Writing;
 use record::refusal::Refusal;
 
 // The first five lines; each column is named by the line that begins there. There is a call for each line: in a loop over their numbers
@@ -27,7 +26,7 @@ fn write_first(r: Record, out: &mut [u8]) -> usize
     let fraction = time + write_time(r, &mut out[time..]);
     let channel = fraction + write_fraction(r, &mut out[fraction..]);
     let sync = channel + write_channel(r, &mut out[channel..]);
-    sync + write_flag(4, b"sync=", r, &mut out[sync..])
+    sync + write_flag(Flag::Sync, b"sync=", r, &mut out[sync..])
 }
 
 // The next five.
@@ -35,11 +34,11 @@ fn write_middle(r: Record, out: &mut [u8]) -> usize
     requires { 47 ≤ length out.old }
     ensures { Laid (lines_of r 5 5) (encode r) result out.old out.new × (result ≤ 47) }
 {
-    let utc = write_flag(5, b"fix=", r, out);
-    let summer = utc + write_flag(6, b"utc=", r, &mut out[utc..]);
-    let change = summer + write_flag(7, b"summer=", r, &mut out[summer..]);
-    let leap = change + write_flag(8, b"change=", r, &mut out[change..]);
-    leap + write_flag(9, b"leap=", r, &mut out[leap..])
+    let utc = write_flag(Flag::Fix, b"fix=", r, out);
+    let summer = utc + write_flag(Flag::Utc, b"utc=", r, &mut out[utc..]);
+    let change = summer + write_flag(Flag::Summer, b"summer=", r, &mut out[summer..]);
+    let leap = change + write_flag(Flag::Change, b"change=", r, &mut out[change..]);
+    leap + write_flag(Flag::Leap, b"leap=", r, &mut out[leap..])
 }
 
 // The last four.
@@ -49,15 +48,16 @@ fn write_last(r: Record, out: &mut [u8]) -> usize
 {
     let position = write_offset(r, out);
     let dsp = position + write_position(r, &mut out[position..]);
-    let lsp = dsp + write_flag(12, b"dsp=", r, &mut out[dsp..]);
-    lsp + write_flag(13, b"lsp=", r, &mut out[lsp..])
+    let lsp = dsp + write_flag(Flag::Dsp, b"dsp=", r, &mut out[dsp..]);
+    lsp + write_flag(Flag::Lsp, b"lsp=", r, &mut out[lsp..])
 }
 
-// The lines of a record, good or not, and how many bytes they have. Nothing is written where there are fewer than 175 bytes, which hold
-// the lines of every record: behind this one test the compiler finds that every store has room.
+/// Writes the lines of a record, good or not, at the head of the buffer, and answers how many bytes they have: 118 to 174 of a good
+/// record. Where there are fewer than 175 bytes, which hold the lines of every record, nothing is written and the answer is 0.
 pub fn put(r: Record, out: &mut [u8]) -> usize
     ensures { Put r result out.old out.new }
 {
+    // Behind this one test the compiler finds that every store has room.
     if out.len() < 175 {
         return 0;
     }
@@ -66,19 +66,22 @@ pub fn put(r: Record, out: &mut [u8]) -> usize
     offset + write_last(r, &mut out[offset..])
 }
 
-// The lines go to a buffer of their own first, since a refusal changes no byte and their number of bytes is known only behind the last.
-pub fn write(r: Record, out: &mut [u8]) -> Writing
+/// Writes the block of a record at the head of the buffer, and answers how many bytes it has. A record that is not good is refused with
+/// `BadRecord`, a buffer that is too short for its block with `ShortBuffer`; then no byte is changed.
+#[inline(never)]
+pub fn write(r: Record, out: &mut [u8]) -> Result<usize, Refusal>
     ensures { Wrote (block_of first_edition r) r result out.old out.new }
 {
     if r.is_good() {
+        // The lines go to a buffer of their own first, since their number of bytes is known only behind the last.
         let mut block = [0u8; 175];
         let n = put(r, &mut block);
         if out.len() < n {
-            return Writing::Refused(Refusal::ShortBuffer);
+            return Err(Refusal::ShortBuffer);
         }
         spelling::put_bytes(out, 0, &block[..n]);
-        Writing::Written(n)
+        Ok(n)
     } else {
-        Writing::Refused(Refusal::BadRecord)
+        Err(Refusal::BadRecord)
     }
 }

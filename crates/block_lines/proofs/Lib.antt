@@ -1,4 +1,3 @@
 pub mod Closed
 pub mod Laid
 pub mod Variant
-pub mod Numbers

@@ -1,5 +1,5 @@
 -- Inner: what the reader of a line finds at the head of the bytes: the line's size, and what is told with it.
-use Rattle.std.specs.Prelude.{Bool, false, ◌&&◌, ◌||◌, List, [], ◌∷◌, ℕ, ◌+◌, take, drop}
+use Rattle.std.specs.Prelude.{Bool, false, ◌&&◌, ◌||◌, List, [], ◌∷◌, ℕ, ◌+◌, take, drop, Option, None, Some}
 use Rattle.cond.specs.Pick.{pick}
 use Rattle.spelling.specs.Bytes.{letters, same_bytes}
 use Rattle.spelling.specs.Spelling.{digits, is_spelled, words}
@@ -12,8 +12,7 @@ use Rattle.forms.specs.Slots.{Slot, Values, altitude, change, channel, day, dsp,
 use Rattle.forms.specs.Slots.{latitude_part, latitude_whole, leap, longitude_degrees, longitude_hundredth, longitude_minute, longitude_part, longitude_whole, lsp, minus, minute}
 use Rattle.forms.specs.Slots.{month, notice, offset_hours, offset_minutes, ordinal, plus, quality, second, south, summer, sync, ten_millionth, thousandth, utc, west, year, zone}
 use Rattle.forms.specs.Decode.{decode}
-use Rattle.block_lines.specs.declared.state.Found.{Found}
-use Rattle.block_lines.specs.declared.state.Found.TheVariants as found
+use Rattle.places.specs.Places.{arc_at}
 use Rattle.block_lines.specs.declared.state.State.{State}
 
 -- what a layout tells where its slots tell v: the record, the offset's minutes alone, that no minus stands on a zero, and that the position's
@@ -95,12 +94,12 @@ onto ps x b =
       arc = pick (has_any ps position_slots) x.arc b.arc;
     }
 
--- a line at the head of the bytes, behind lines that told b
-unfoldable pub line_read : Line → List ℕ → State → Found
+-- a line at the head of the bytes, behind lines that told b: its number of bytes, and what is told by then
+unfoldable pub line_read : Line → List ℕ → State → Option (ℕ × State)
 line_read l s b =
     pick (shape (variant_at l 0 s) 0 s)
-    (found.Line (layout_width (variant_at l 0 s)) (onto (variant_at l 0 s) (decoded (variant_at l 0 s) (values (variant_at l 0 s) 0 s)) b))
-    found.Nothing
+    (Some (layout_width (variant_at l 0 s), onto (variant_at l 0 s) (decoded (variant_at l 0 s) (values (variant_at l 0 s) 0 s)) b))
+    None
 
 -- a key, a word and LF
 abbrev pub word_layout : List ℕ → List ℕ → Layout
@@ -116,3 +115,8 @@ degrees_at s k =
     is_spelled (words 1 (letters (43 ∷ 45 ∷ []))) (take 1 (drop k s))
     && (is_spelled (digits 3) (take 3 (drop (k + 1) s))
     && (same_bytes (take 1 (drop (k + 4) s)) (46 ∷ []) && is_spelled (digits 4) (take 4 (drop (k + 5) s))))
+
+-- "`+00803.75`" stands at k, with w digits of degrees
+abbrev pub minutes_at : List ℕ → ℕ → ℕ → Bool
+minutes_at s k w =
+    is_spelled (words 1 (letters (43 ∷ 45 ∷ []))) (take 1 (drop k s)) && (is_spelled (digits w) (take w (drop (k + 1) s)) && arc_at s (k + 1 + w))

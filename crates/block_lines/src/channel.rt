@@ -7,30 +7,34 @@ ghost use Rattle.block_lines.specs.Reading.{line_read};
 ghost use Rattle.block_lines.specs.Stores.{Laid};
 
 use crate::line::{has_number, has_word, put_number, put_word};
-use crate::state::{Found, State};
-use record::{Channel, Record};
+use crate::state::State;
+use record::Record;
 
-pub fn read_channel(s: &[u8], before: State) -> Found
+/// Reads the line of the channel at the head of the bytes.
+#[tactic(auto, unfolding(crate::specs::Reading::decoded, crate::specs::Reading::has_any, crate::specs::Reading::line_read, crate::specs::Reading::onto, forms::specs::Block::variant_at, forms::specs::Carries::carries_of, forms::specs::Places::has, forms::specs::Places::layout_width, forms::specs::Places::values, forms::specs::Fields::Channel::decode_channel))]
+pub fn read_channel(s: &[u8], before: State) -> Option<(usize, State)>
     ensures { result ≡ line_read channel_line s.now before }
 {
     if has_word(b"channel=", b"-", s) {
-        return Found::Line(10, before);
+        return Some((10, before));
     }
-    let r = before.known;
     if has_number(b"channel=", 1, s) {
-        let channel = Channel::Number(places::number_at(s, 8, 1));
-        let known = Record { channel, ..r };
-        return Found::Line(10, State { known, ..before });
+        let channel = Some(places::number_at(s, 8, 1));
+        let known = Record {
+            channel,
+            ..before.known
+        };
+        return Some((10, State { known, ..before }));
     }
-    Found::Nothing
+    None
 }
 
+/// Writes the line of the channel at the head of the buffer, and answers how many bytes it has.
 pub fn write_channel(r: Record, out: &mut [u8]) -> usize
     ensures { Laid (get_or channel_line (channel_choice r.channel) []) (encode r) result out.old out.new × (result ≤ 10) }
 {
-    let channel = r.channel;
-    match channel {
-        Channel::Absent => put_word(b"channel=", b"-", out),
-        Channel::Number(n) => put_number(b"channel=", 1, n, out),
+    match r.channel {
+        None => put_word(b"channel=", b"-", out),
+        Some(n) => put_number(b"channel=", 1, n, out),
     }
 }

@@ -9,7 +9,7 @@ ghost use Rattle.block_lines.specs.Stores.{Laid, degrees_stored};
 
 use crate::line::{has_word, put_word};
 use crate::minutes;
-use crate::state::{Found, State};
+use crate::state::State;
 use record::{Position, Record};
 
 // `+047.3500`. The place is a u32, so that its sum with a width fits.
@@ -36,17 +36,17 @@ fn has_position(s: &[u8]) -> bool
         & places::is_at(s, 33, b'\n')
 }
 
-fn position_at(s: &[u8]) -> Position
+fn position_at(s: &[u8]) -> Option<Position>
     requires { 34 ≤ length s.now }
     ensures { result ≡ decode_position degrees (values (get_or position_line 1 []) 0 s.now) }
 {
     let south = s[9] != b'+';
     let west = s[19] != b'+';
-    Position::Degrees {
+    Some(Position::Degrees {
         latitude: record::sign::signed_number(south, places::degrees_at(s, 10)),
         longitude: record::sign::signed_number(west, places::degrees_at(s, 20)),
         altitude: places::number_at(s, 29, 4),
-    }
+    })
 }
 
 fn consistent_at(s: &[u8]) -> bool
@@ -57,18 +57,21 @@ fn consistent_at(s: &[u8]) -> bool
         & places::sign_agrees(s, 19, b'+', places::degrees_at(s, 20))
 }
 
-pub fn read_position(s: &[u8], before: State) -> Found
+/// Reads the line of the position at the head of the bytes.
+pub fn read_position(s: &[u8], before: State) -> Option<(usize, State)>
     ensures { result ≡ line_read position_line s.now before }
 {
     if has_word(b"position=", b"-", s) {
-        return Found::Line(11, before);
+        return Some((11, before));
     }
     if has_position(s) {
-        let r = before.known;
         let position = position_at(s);
-        let known = Record { position, ..r };
+        let known = Record {
+            position,
+            ..before.known
+        };
         let place = consistent_at(s);
-        return Found::Line(
+        return Some((
             34,
             State {
                 known,
@@ -76,15 +79,17 @@ pub fn read_position(s: &[u8], before: State) -> Found
                 arc: true,
                 ..before
             },
-        );
+        ));
     }
     if minutes::has_position(s) {
-        let r = before.known;
         let position = minutes::position_at(s);
-        let known = Record { position, ..r };
+        let known = Record {
+            position,
+            ..before.known
+        };
         let place = minutes::consistent_at(s);
         let arc = minutes::arcs_in_range(s);
-        return Found::Line(
+        return Some((
             28,
             State {
                 known,
@@ -92,9 +97,9 @@ pub fn read_position(s: &[u8], before: State) -> Found
                 arc,
                 ..before
             },
-        );
+        ));
     }
-    Found::Nothing
+    None
 }
 
 // `+047.3500`
@@ -109,44 +114,37 @@ fn put_degrees(out: &mut [u8], at: u32, minus: bool, n: u32)
 }
 
 // `position=+047.3500 +008.0625 0431`
+#[tactic(auto, unfolding(places::specs::Stores::stores, forms::specs::Places::layout_width))]
 fn put_position(r: Record, out: &mut [u8]) -> usize
     ensures { Laid (get_or position_line 1 []) (encode r) result out.old out.new }
 {
-    let position = r.position;
     spelling::put_bytes(out, 0, b"position=");
     put_degrees(
         out,
         9,
-        fields::is_south(position),
-        fields::latitude_of(position),
+        fields::is_south(r.position),
+        fields::latitude_of(r.position),
     );
     spelling::put_byte(out, 18, b' ');
     put_degrees(
         out,
         19,
-        fields::is_west(position),
-        fields::longitude_of(position),
+        fields::is_west(r.position),
+        fields::longitude_of(r.position),
     );
     spelling::put_byte(out, 28, b' ');
-    spelling::put_digits(out, 29, 4, fields::altitude_of(position));
+    spelling::put_digits(out, 29, 4, fields::altitude_of(r.position));
     spelling::put_byte(out, 33, b'\n');
     34
 }
 
+/// Writes the line of the position at the head of the buffer, and answers how many bytes it has.
 pub fn write_position(r: Record, out: &mut [u8]) -> usize
     ensures { Laid (get_or position_line (position_choice r.position) []) (encode r) result out.old out.new × (result ≤ 34) }
 {
-    let position = r.position;
-    match position {
-        Position::Absent => put_word(b"position=", b"-", out),
-        Position::Degrees {
-            latitude: _,
-            longitude: _,
-            altitude: _,
-        } => put_position(r, out),
-        Position::Minutes {
-            latitude: _,
-            longitude: _,
-        } => minutes::put_position(r, out),
+    match r.position {
+        None => put_word(b"position=", b"-", out),
+        Some(Position::Degrees { .. }) => put_position(r, out),
+        Some(Position::Minutes { .. }) => minutes::put_position(r, out),
     }
 }

@@ -1,22 +1,17 @@
-// What the lines read so far tell, and what the reader of a line hands back.
+// What the lines read so far tell.
 use record::Record;
 
-#[derive(Drop)]
+/// What the lines so far tell. The reader of a line is handed it, and hands back the line's number of bytes with what is told by then,
+/// or `None` where its bytes are no such line.
+#[derive(Clone, Copy, Debug, PartialEq, Eq)]
 pub struct State {
     pub known: Record,
-    // The minutes of the offset alone.
+    /// The minutes of the offset alone.
     pub minutes: u32,
-    // No minus stands on an offset of zero.
+    /// No minus stands on an offset of zero.
     pub zone: bool,
-    // No minus stands on a zero of the position.
+    /// No minus stands on a zero of the position.
     pub place: bool,
-    // The minutes of the position alone are below 60.
+    /// The minutes of the position alone are below 60.
     pub arc: bool,
-}
-
-// The size of a line and what is told with it, or bytes that are no such line.
-#[derive(Drop)]
-pub enum Found {
-    Nothing,
-    Line(usize, State),
 }

@@ -1,10 +1,10 @@
 -- What lies between two entries of the table: the months from the one to the other.
-use Rattle.cond.proofs.Kit.{◌+◌, ◌-◌, ◌<◌, ◌≡◌, ◌≤◌, arith, ℕ}
-use Rattle.calendar.specs.Calendar.{days_through, first_of, month_length}
-use Rattle.calendar.specs.Entries.{DayByTable, MonthsBetween}
+use Rattle.cond.proofs.Kit.{◌+◌, ◌-◌, ◌<◌, ◌≡◌, ◌≤◌, arith, true, ℕ}
+use Rattle.calendar.specs.Calendar.{day_of_year, days_through, first_of, is_date, month_length}
+use Rattle.calendar.specs.Entries.{day_by_table, DayByTable, MonthsBetween}
 use Rattle.calendar.proofs.Count.{months_through}
 use Rattle.calendar.proofs.Months.{through_month}
-use Rattle.calendar.proofs.Ranges.{date_range, month_range}
+use Rattle.calendar.proofs.Ranges.{date_range, month_range, ordinal_range}
 
 -- the entry behind m months of a year is later than that of January by these
 pub through_entry : (y m : ℕ) → y < 100 → m ≤ 12 → first_of y (m + 1) ≡ first_of y 1 + days_through y m
@@ -29,3 +29,10 @@ pub day_by_table_lem : DayByTable
 day_by_table_lem y m d h =
     let c = date_range y m d h in
     omega (arith, from_january y m c.years c.months)
+
+pub day_by_table_le : (y m d : ℕ) → is_date y m d ≡ true → day_by_table y m d ≤ 366
+unfolding day_of_year
+day_by_table_le y m d h = omega (arith, day_by_table_lem y m d h, ordinal_range y m d (date_range y m d h))
+
+-- what the difference of two entries needs
+pub ruleset between = (from_january, day_by_table_lem, day_by_table_le)

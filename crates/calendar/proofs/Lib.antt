@@ -6,5 +6,6 @@ pub mod Ranges
 pub mod Last
 pub mod Entries
 pub mod DayOfYear
+pub mod Search
 pub mod Years
 pub mod Values

@@ -1,7 +1,7 @@
 -- The answers in the paper's number and values: a test of the date decides three of them, one of the digits the fourth, and a search that has its laws the last.
 use Rattle.cond.proofs.Kit.{◌≡◌, ap, arith, le-ltb, lt-ltb, refl, true, ℕ}
+use Rattle.std.proofs.Common.{None, Option, Some}
 use Rattle.calendar.specs.declared.MonthDay.{MonthDay}
-use Rattle.calendar.specs.declared.MonthDay.TheVariants as DateIs
 use Rattle.calendar.specs.Answers.{date_day, date_month, date_of_day, date_refusal, full_year_in, of_date}
 use Rattle.calendar.specs.Calendar.{day_number, day_of_year, is_date, weekday_of}
 use Rattle.calendar.specs.Values.{OfDate, OfDay, OfDigits, Values}
@@ -22,9 +22,9 @@ of_day y n =
           (ap date_refusal f, ap date_month f, ap date_day f);
     }
   where
-    go : (a : MonthDay) → date_of_day y n ≡ a → date_refusal a ≡ 0 → (is_date y (date_month a) (date_day a) ≡ true) × (day_of_year y (date_month a) (date_day a) ≡ n)
-    go (DateIs.On m d) e h = found_day y n m d e
-    go DateIs.NoSuchDate e h = absurd (omega arith)
+    go : (a : Option MonthDay) → date_of_day y n ≡ a → date_refusal a ≡ 0 → (is_date y (date_month a) (date_day a) ≡ true) × (day_of_year y (date_month a) (date_day a) ≡ n)
+    go (Some d) e h = found_day y n d.month d.day e
+    go None e h = absurd (omega arith)
 
 of_digits : (y : ℕ) → OfDigits y (full_year_in y)
 of_digits y = record { there = λ h. rw (lt-ltb y 100 h) (refl, refl); none = λ h. rw (le-ltb y 100 h) (refl, refl) }

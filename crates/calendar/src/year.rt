@@ -1,24 +1,18 @@
-// The years that two digits name: 80 to 99 those from 1980 on, 00 to 79 those from 2000 on.
+//! The years that two digits name: 80 to 99 those from 1980 on, 00 to 79 those from 2000 on.
 ghost use Rattle.std.specs.Prelude.{◌≡◌, ◌<◌};
 ghost use Rattle.calendar.specs.Answers.{full_year_in};
 ghost use Rattle.calendar.specs.Calendar.{year_of};
 
-use crate::Day;
-
-pub(crate) fn year_of(y: u32) -> u32
-    requires { y < 100 }
-    ensures { result ≡ year_of y }
+pub(crate) fn year_of(year: u32) -> u32
+    requires { year < 100 }
+    ensures { result ≡ year_of year }
 {
-    if 80 <= y { 1900 + y } else { 2000 + y }
+    if 80 <= year { 1900 + year } else { 2000 + year }
 }
 
-// The year with its century that the digits `y` name.
-pub fn full_year(y: u32) -> Day
-    ensures { result ≡ full_year_in y }
+/// The year with its century, 1980 to 2079, that two digits name. None for a number of more digits.
+pub fn full_year(year: u32) -> Option<u32>
+    ensures { result ≡ full_year_in year }
 {
-    if y < 100 {
-        Day::Number(year_of(y))
-    } else {
-        Day::NoSuchDate
-    }
+    (year < 100).then(|| year_of(year))
 }

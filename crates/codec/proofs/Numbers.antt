@@ -1,9 +1,10 @@
 -- The forms by their numbers: those that are not serial stand behind the serial ones, and any other number is that of a serial form or of none.
+use Rattle.std.specs.Prelude.{Result}
+use Rattle.record.specs.declared.refusal.Refusal.{Refusal}
 use Rattle.cond.proofs.Kit.{[], ◌++◌, ◌∙◌, ◌∷◌, ◌≡◌, ◌⊎◌, ap, arith, drop, eqb, inl, inr, length, List, lt-ltb, ltb, refl, suc, sym, zero, ℕ, ⊎_elim}
 use Rattle.cond.specs.Pick.{pick}
 use Rattle.record.specs.declared.Record.{Record}
 use Rattle.record.specs.declared.sign.SignRule.TheVariants.{OneAbove, OneBelow}
-use Rattle.record.specs.declared.answer.Writing.{Writing}
 use Rattle.forms.specs.Block.{block_of, first_edition}
 use Rattle.forms.specs.Form.{Wrote}
 use Rattle.forms.specs.Forms.{FormKind, Numbered, WroteAs, all_forms, block, form_kind_of, is_known, is_serial, left_as, serial_forms, sized, unknown, write_as}
@@ -38,6 +39,6 @@ known_serial n = go (length_of n) refl
     go zero e = not_serial n e
     go (suc k) e = some_serial n (λ z. omega arith) ∙ sym (lt-ltb 0 (suc k) (omega arith))
 
-pub wrote_block : {l : FormKind} {r : Record} {w : Writing} {before after : List ℕ} → l ≡ block first_edition → Wrote (block_of first_edition r) r w before after → WroteAs l r w before after
+pub wrote_block : {l : FormKind} {r : Record} {w : Result ℕ Refusal} {before after : List ℕ} → l ≡ block first_edition → Wrote (block_of first_edition r) r w before after → WroteAs l r w before after
 unfolding write_as left_as
 wrote_block e h = rw e record { answer = h.answer; left = h.left }

@@ -7,7 +7,7 @@ ghost use Rattle.record.specs.declared.sign.SignRule.TheVariants.{OneAbove, OneB
 ghost use Rattle.forms.specs.Forms.{WroteAs, all_forms, form_kind_of, is_known, read_form};
 
 use record::Record;
-use record::answer::{Reading, Writing};
+use record::refusal::Refusal;
 use record::sign::SignRule;
 
 // The rule of a frame's number. Both frames have one call: with a call for each, strings of every form took longer (docs/BENCHMARK.md).
@@ -32,7 +32,7 @@ pub fn is_form(form: u32) -> bool
     }
 }
 
-pub fn read(form: u32, input: &[u8]) -> Reading
+pub fn read(form: u32, input: &[u8]) -> Result<Record, Refusal>
     ensures { result ≡ read_form form input.now }
 {
     match form {
@@ -42,7 +42,7 @@ pub fn read(form: u32, input: &[u8]) -> Reading
     }
 }
 
-pub fn write(form: u32, r: Record, out: &mut [u8]) -> Writing
+pub fn write(form: u32, r: Record, out: &mut [u8]) -> Result<usize, Refusal>
     ensures { WroteAs (form_kind_of all_forms form) r result out.old out.new }
 {
     match form {

@@ -1,4 +1,4 @@
-// What the string tells twice agrees.
+//! What the string tells twice agrees.
 ghost use Rattle.std.specs.Prelude.{◌≡◌, true, length};
 ghost use Rattle.forms.specs.Fields.Offset.{in_minutes};
 ghost use Rattle.forms.specs.Fields.Position.{degrees};

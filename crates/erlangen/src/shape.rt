@@ -1,11 +1,12 @@
-// The bytes, digits, letters and padding of the string.
+//! The bytes, digits, letters and padding of the string, in pieces.
+#![tactic(auto, unfolding(forms::specs::Places::shape))]
+
 ghost use Rattle.std.specs.Prelude.{◌≡◌};
 ghost use Rattle.forms.specs.Places.{shape};
-ghost use Rattle.forms.specs.Serial.{erlangen_layout};
 ghost use Rattle.erlangen.specs.Layouts.{altitude_layout, date_layout, flags_layout, latitude_layout, leap_layout, longitude_layout, offset_layout, time_layout};
 
 // `<STX>dd.mm.yy; w; `
-fn is_date(s: &[u8]) -> bool
+pub(crate) fn is_date(s: &[u8]) -> bool
     ensures { result ≡ shape date_layout 0 s.now }
 {
     places::is_at(s, 0, 2)
@@ -16,14 +17,14 @@ fn is_date(s: &[u8]) -> bool
 }
 
 // `hh:mm:ss; `
-fn is_time(s: &[u8]) -> bool
+pub(crate) fn is_time(s: &[u8]) -> bool
     ensures { result ≡ shape time_layout 14 s.now }
 {
     places::pairs_at(s, 14, b':') & places::text_at(s, 22, b"; ")
 }
 
 // `voo:oo; `
-fn is_offset(s: &[u8]) -> bool
+pub(crate) fn is_offset(s: &[u8]) -> bool
     ensures { result ≡ shape offset_layout 24 s.now }
 {
     places::letter_at(s, 24, b"+-")
@@ -34,7 +35,7 @@ fn is_offset(s: &[u8]) -> bool
 }
 
 // `acdfg`: sync, fix, summer, change, leap.
-fn are_flags(s: &[u8]) -> bool
+pub(crate) fn are_flags(s: &[u8]) -> bool
     ensures { result ≡ shape flags_layout 32 s.now }
 {
     places::letter_at(s, 32, b"# ")
@@ -45,14 +46,14 @@ fn are_flags(s: &[u8]) -> bool
 }
 
 // ` i;`
-fn is_leap_second(s: &[u8]) -> bool
+pub(crate) fn is_leap_second(s: &[u8]) -> bool
     ensures { result ≡ shape leap_layout 37 s.now }
 {
     places::is_at(s, 37, b' ') & places::letter_at(s, 38, b" L") & places::is_at(s, 39, b';')
 }
 
 // `bbb.bbbbn `
-fn is_latitude(s: &[u8]) -> bool
+pub(crate) fn is_latitude(s: &[u8]) -> bool
     ensures { result ≡ shape latitude_layout 40 s.now }
 {
     places::padded_at(s, 40, 3)
@@ -63,7 +64,7 @@ fn is_latitude(s: &[u8]) -> bool
 }
 
 // `lll.lllle `
-fn is_longitude(s: &[u8]) -> bool
+pub(crate) fn is_longitude(s: &[u8]) -> bool
     ensures { result ≡ shape longitude_layout 50 s.now }
 {
     places::padded_at(s, 50, 3)
@@ -74,21 +75,8 @@ fn is_longitude(s: &[u8]) -> bool
 }
 
 // `hhhhm<ETX>`
-fn is_altitude(s: &[u8]) -> bool
+pub(crate) fn is_altitude(s: &[u8]) -> bool
     ensures { result ≡ shape altitude_layout 60 s.now }
 {
     places::padded_at(s, 60, 4) & places::text_at(s, 64, b"m\x03")
-}
-
-pub(crate) fn has_shape(s: &[u8]) -> bool
-    ensures { result ≡ shape erlangen_layout 0 s.now }
-{
-    is_date(s)
-        & is_time(s)
-        & is_offset(s)
-        & are_flags(s)
-        & is_leap_second(s)
-        & is_latitude(s)
-        & is_longitude(s)
-        & is_altitude(s)
 }

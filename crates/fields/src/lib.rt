@@ -7,7 +7,6 @@ mod flag;
 mod fraction;
 mod offset;
 mod position;
-mod signed;
 
 pub use channel::{channel_of, has_channel};
 pub use date::{day_of, has_day_of_year, has_full_date, month_of, ordinal_of, year_of};

@@ -1,41 +1,24 @@
-// The offset of a record: there, and its sign and magnitude.
+//! The offset of a record: there, and its sign and magnitude.
 ghost use Rattle.std.specs.Prelude.{◌≡◌, true};
-ghost use Rattle.forms.specs.Fields.Offset.{has_offset, encode_minutes};
+ghost use Rattle.forms.specs.Fields.Offset.{encode_minutes, has_offset};
 ghost use Rattle.fields.specs.Signs.{is_minus};
 
-use crate::signed::{Signed, apart};
-use record::Offset;
-
-pub fn has_offset(offset: Offset) -> bool
+pub fn has_offset(offset: Option<i32>) -> bool
     ensures { result ≡ has_offset true offset }
 {
-    match offset {
-        Offset::Absent => false,
-        Offset::Minutes(_) => true,
-    }
+    offset.is_some()
 }
 
-// The offset's sign and its minutes without it, 0 where there is none.
-fn parts(offset: Offset) -> Signed
-    ensures { (result.minus ≡ is_minus offset) × (result.magnitude ≡ encode_minutes offset) }
-{
-    match offset {
-        Offset::Absent => Signed {
-            minus: false,
-            magnitude: 0,
-        },
-        Offset::Minutes(z) => apart(z),
-    }
-}
-
-pub fn is_minus(offset: Offset) -> bool
+/// Whether local time is behind UTC.
+pub fn is_minus(offset: Option<i32>) -> bool
     ensures { result ≡ is_minus offset }
 {
-    parts(offset).minus
+    offset.is_some_and(|minutes| minutes < 0)
 }
 
-pub fn minutes_of(offset: Offset) -> u32
+/// The minutes without their sign, 0 where there is no offset.
+pub fn minutes_of(offset: Option<i32>) -> u32
     ensures { result ≡ encode_minutes offset }
 {
-    parts(offset).magnitude
+    offset.unwrap_or(0).unsigned_abs()
 }

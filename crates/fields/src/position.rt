@@ -1,81 +1,47 @@
-// The position of a record: there and of its kind, and the signs and magnitudes of its numbers.
+//! The position of a record: there and of its kind, and the signs and magnitudes of its numbers.
 ghost use Rattle.std.specs.Prelude.{◌≡◌, nat_abs};
 ghost use Rattle.forms.specs.Fields.Position.{degrees, encode_altitude, encode_latitude, encode_longitude, has_position, latitude_of, longitude_of, minutes};
 ghost use Rattle.fields.specs.Signs.{is_south, is_west};
 
-use crate::signed::{Signed, apart};
 use record::Position;
 
-pub fn has_degrees(position: Position) -> bool
+pub fn has_degrees(position: Option<Position>) -> bool
     ensures { result ≡ has_position degrees position }
 {
-    match position {
-        Position::Absent => false,
-        Position::Degrees {
-            latitude: _,
-            longitude: _,
-            altitude: _,
-        } => true,
-        Position::Minutes {
-            latitude: _,
-            longitude: _,
-        } => false,
-    }
+    matches!(position, Some(Position::Degrees { .. }))
 }
 
-pub fn has_minutes(position: Position) -> bool
+pub fn has_minutes(position: Option<Position>) -> bool
     ensures { result ≡ has_position minutes position }
 {
-    match position {
-        Position::Absent => false,
-        Position::Degrees {
-            latitude: _,
-            longitude: _,
-            altitude: _,
-        } => false,
-        Position::Minutes {
-            latitude: _,
-            longitude: _,
-        } => true,
-    }
+    matches!(position, Some(Position::Minutes { .. }))
 }
 
-// The latitude's sign, and its magnitude in the unit of its kind, 0 where there is no position.
-fn latitude(position: Position) -> Signed
-    ensures { (result.minus ≡ is_south position) × (result.magnitude ≡ nat_abs (latitude_of position)) }
+// In the unit of its kind, north and east positive, 0 where there is no position.
+fn latitude(position: Option<Position>) -> i32
+    ensures { result ≡ latitude_of position }
 {
     match position {
-        Position::Absent => Signed {
-            minus: false,
-            magnitude: 0,
-        },
-        Position::Degrees {
-            latitude,
-            longitude: _,
-            altitude: _,
-        } => apart(latitude),
-        Position::Minutes {
-            latitude,
-            longitude: _,
-        } => apart(latitude),
+        None => 0,
+        Some(Position::Degrees { latitude, .. } | Position::Minutes { latitude, .. }) => latitude,
     }
 }
 
-pub fn is_south(position: Position) -> bool
+pub fn is_south(position: Option<Position>) -> bool
     ensures { result ≡ is_south position }
 {
-    latitude(position).minus
+    latitude(position) < 0
 }
 
-// The magnitude in the unit of its kind, whichever that is.
-pub fn latitude_units(position: Position) -> u32
+/// The magnitude in the unit of its kind, whichever that is.
+pub fn latitude_units(position: Option<Position>) -> u32
     ensures { result ≡ nat_abs (latitude_of position) }
 {
-    latitude(position).magnitude
+    latitude(position).unsigned_abs()
 }
 
-// Ten-thousandths of a degree, 0 where the position is not in degrees.
-pub fn latitude_of(position: Position) -> u32
+/// Ten-thousandths of a degree, 0 where the position is not in degrees.
+pub fn latitude_of(position: Option<Position>) -> u32
     ensures { result ≡ encode_latitude degrees position }
 {
     if has_degrees(position) {
@@ -85,8 +51,8 @@ pub fn latitude_of(position: Position) -> u32
     }
 }
 
-// Hundredths of a minute, 0 where the position is not in minutes.
-pub fn latitude_in_minutes(position: Position) -> u32
+/// Hundredths of a minute, 0 where the position is not in minutes.
+pub fn latitude_in_minutes(position: Option<Position>) -> u32
     ensures { result ≡ encode_latitude minutes position }
 {
     if has_minutes(position) {
@@ -96,42 +62,32 @@ pub fn latitude_in_minutes(position: Position) -> u32
     }
 }
 
-// The longitude's sign, and its magnitude in the unit of its kind, 0 where there is no position.
-fn longitude(position: Position) -> Signed
-    ensures { (result.minus ≡ is_west position) × (result.magnitude ≡ nat_abs (longitude_of position)) }
+// In the unit of its kind, north and east positive, 0 where there is no position.
+fn longitude(position: Option<Position>) -> i32
+    ensures { result ≡ longitude_of position }
 {
     match position {
-        Position::Absent => Signed {
-            minus: false,
-            magnitude: 0,
-        },
-        Position::Degrees {
-            latitude: _,
+        None => 0,
+        Some(Position::Degrees { longitude, .. } | Position::Minutes { longitude, .. }) =>
             longitude,
-            altitude: _,
-        } => apart(longitude),
-        Position::Minutes {
-            latitude: _,
-            longitude,
-        } => apart(longitude),
     }
 }
 
-pub fn is_west(position: Position) -> bool
+pub fn is_west(position: Option<Position>) -> bool
     ensures { result ≡ is_west position }
 {
-    longitude(position).minus
+    longitude(position) < 0
 }
 
-// The magnitude in the unit of its kind, whichever that is.
-pub fn longitude_units(position: Position) -> u32
+/// The magnitude in the unit of its kind, whichever that is.
+pub fn longitude_units(position: Option<Position>) -> u32
     ensures { result ≡ nat_abs (longitude_of position) }
 {
-    longitude(position).magnitude
+    longitude(position).unsigned_abs()
 }
 
-// Ten-thousandths of a degree, 0 where the position is not in degrees.
-pub fn longitude_of(position: Position) -> u32
+/// Ten-thousandths of a degree, 0 where the position is not in degrees.
+pub fn longitude_of(position: Option<Position>) -> u32
     ensures { result ≡ encode_longitude degrees position }
 {
     if has_degrees(position) {
@@ -141,8 +97,8 @@ pub fn longitude_of(position: Position) -> u32
     }
 }
 
-// Hundredths of a minute, 0 where the position is not in minutes.
-pub fn longitude_in_minutes(position: Position) -> u32
+/// Hundredths of a minute, 0 where the position is not in minutes.
+pub fn longitude_in_minutes(position: Option<Position>) -> u32
     ensures { result ≡ encode_longitude minutes position }
 {
     if has_minutes(position) {
@@ -152,19 +108,11 @@ pub fn longitude_in_minutes(position: Position) -> u32
     }
 }
 
-pub fn altitude_of(position: Position) -> u32
+pub fn altitude_of(position: Option<Position>) -> u32
     ensures { result ≡ encode_altitude position }
 {
     match position {
-        Position::Absent => 0,
-        Position::Degrees {
-            latitude: _,
-            longitude: _,
-            altitude,
-        } => altitude,
-        Position::Minutes {
-            latitude: _,
-            longitude: _,
-        } => 0,
+        Some(Position::Degrees { altitude, .. }) => altitude,
+        _ => 0,
     }
 }

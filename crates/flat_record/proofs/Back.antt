@@ -1,12 +1,10 @@
 -- A record's numbers are a record's, and give it back; the magnitudes of a good record fit.
+use Rattle.std.specs.Prelude.{Option, None, Some, Ok, ℤ}
 use Rattle.cond.proofs.Kit.{◌&&◌, ◌≡◌, ◌≤◌, arith, le-leb, leb, leb-true, nat_abs, refl, true, ℕ}
 use Rattle.cond.proofs.Tests.{both, both_hold}
-use Rattle.record.specs.declared.Offset.{Offset}
-use Rattle.record.specs.declared.Offset.TheVariants as OffsetIs
 use Rattle.record.specs.declared.Position.{Position}
 use Rattle.record.specs.declared.Position.TheVariants as PositionIs
 use Rattle.record.specs.declared.Record.{Record}
-use Rattle.record.specs.declared.answer.Reading.TheVariants as reading
 use Rattle.record.specs.Record.{is_good, offset_in_range, position_in_range}
 use Rattle.forms.proofs.Bounds.{good}
 use Rattle.forms.specs.Fields.Offset.{encode_minutes}
@@ -34,11 +32,11 @@ module _ (r : Record) (o : leb (encode_minutes r.offset) 2147483647 ≡ true)
       (rw ((flag_back r.change).same, (flag_back r.leap).same, (flag_back r.dsp).same, (flag_back r.lsp).same)
       (rw ((offset_back r.offset o).1, (position_back r.position a b).1))))
 
-  whole : record_of (numbers_of r) ≡ reading.Read r
+  whole : record_of (numbers_of r) ≡ Ok r
   unfolding record_of head_of tail_of
   whole = rw (flat, same)
 
-given_back : (r : Record) → magnitudes_fit r ≡ true → record_of (numbers_of r) ≡ reading.Read r
+given_back : (r : Record) → magnitudes_fit r ≡ true → record_of (numbers_of r) ≡ Ok r
 unfolding magnitudes_fit
 given_back r h =
     let a = leb (nat_abs (latitude_of r.position)) 2147483647 in
@@ -52,19 +50,19 @@ given_back r h =
 fits : (n most : ℕ) → leb n most ≡ true → most ≤ 2147483647 → leb n 2147483647 ≡ true
 fits n most h l = le-leb n 2147483647 (omega (arith, leb-true n most h))
 
-offset_fits_lem : (o : Offset) → offset_in_range o ≡ true → leb (encode_minutes o) 2147483647 ≡ true
+offset_fits_lem : (o : Option ℤ) → offset_in_range o ≡ true → leb (encode_minutes o) 2147483647 ≡ true
 unfolding offset_in_range
-offset_fits_lem OffsetIs.Absent h = refl
-offset_fits_lem (OffsetIs.Minutes z) h = fits (nat_abs z) 840 h (omega arith)
+offset_fits_lem None h = refl
+offset_fits_lem (Some z) h = fits (nat_abs z) 840 h (omega arith)
 
-position_fits_lem : (p : Position) → position_in_range p ≡ true → (leb (nat_abs (latitude_of p)) 2147483647 && leb (nat_abs (longitude_of p)) 2147483647) ≡ true
+position_fits_lem : (p : Option Position) → position_in_range p ≡ true → (leb (nat_abs (latitude_of p)) 2147483647 && leb (nat_abs (longitude_of p)) 2147483647) ≡ true
 unfolding position_in_range
-position_fits_lem PositionIs.Absent h = refl
-position_fits_lem (PositionIs.Degrees lat lon alt) h =
+position_fits_lem None h = refl
+position_fits_lem (Some (PositionIs.Degrees lat lon alt)) h =
     let p = both (leb (nat_abs lat) 900000) (leb (nat_abs lon) 1800000 && leb alt 9999) h in
     let q = both (leb (nat_abs lon) 1800000) (leb alt 9999) p.1 in
     both_hold _ _ (fits (nat_abs lat) 900000 p.0 (omega arith)) (fits (nat_abs lon) 1800000 q.0 (omega arith))
-position_fits_lem (PositionIs.Minutes lat lon) h =
+position_fits_lem (Some (PositionIs.Minutes lat lon)) h =
     let p = both (leb (nat_abs lat) 540000) (leb (nat_abs lon) 1080000) h in
     both_hold _ _ (fits (nat_abs lat) 540000 p.0 (omega arith)) (fits (nat_abs lon) 1080000 p.1 (omega arith))
 

@@ -1,21 +1,14 @@
 -- The record that numbers give: those of an absent field are not looked at.
-use Rattle.std.specs.Prelude.{Bool, true, false, ◌&&◌, List, ℕ, eqb, leb, ℤ, length, get_or}
+use Rattle.record.specs.declared.refusal.Refusal.{Refusal}
+use Rattle.std.specs.Prelude.{Bool, true, false, ◌&&◌, List, ℕ, eqb, leb, ℤ, length, get_or, Option, None, Some, Result, Ok, Err}
 use Rattle.cond.specs.Pick.{pick}
-use Rattle.record.specs.declared.Channel.{Channel}
-use Rattle.record.specs.declared.Channel.TheVariants as ChannelIs
 use Rattle.record.specs.declared.Date.{Date}
 use Rattle.record.specs.declared.Date.TheVariants as DateIs
-use Rattle.record.specs.declared.Flag.{Flag}
-use Rattle.record.specs.declared.Flag.TheVariants as FlagIs
 use Rattle.record.specs.declared.Fraction.{Fraction}
 use Rattle.record.specs.declared.Fraction.TheVariants as FractionIs
-use Rattle.record.specs.declared.Offset.{Offset}
-use Rattle.record.specs.declared.Offset.TheVariants as OffsetIs
 use Rattle.record.specs.declared.Position.{Position}
 use Rattle.record.specs.declared.Position.TheVariants as PositionIs
 use Rattle.record.specs.declared.Record.{Record}
-use Rattle.record.specs.declared.answer.Reading.{Reading}
-use Rattle.record.specs.declared.answer.Reading.TheVariants as reading
 use Rattle.record.specs.declared.refusal.Refusal.TheVariants as refusal
 use Rattle.record.specs.Sign.{signed}
 use Rattle.flat_record.specs.declared.decode.Kind.{Kind}
@@ -32,59 +25,59 @@ at ns i = get_or ns i 0
 
 -- the fields, each of its kind and its numbers; a kind that is unknown is refused below, before any of them
 
-abbrev pub date_in : Kind → ℕ → ℕ → ℕ → ℕ → Date
-date_in kind.Absent y m d n = DateIs.Absent
-date_in kind.First y m d n = DateIs.Full y m d
-date_in kind.Second y m d n = DateIs.DayOfYear n
-date_in kind.Third y m d n = DateIs.Absent
-date_in kind.Unknown y m d n = DateIs.Absent
+abbrev pub date_in : Kind → ℕ → ℕ → ℕ → ℕ → Option Date
+date_in kind.Absent y m d n = None
+date_in kind.First y m d n = Some (DateIs.Full y m d)
+date_in kind.Second y m d n = Some (DateIs.DayOfYear n)
+date_in kind.Third y m d n = None
+date_in kind.Unknown y m d n = None
 
-abbrev pub date_at : List ℕ → Date
+abbrev pub date_at : List ℕ → Option Date
 date_at ns = date_in (kind_of (at ns 3)) (at ns 4) (at ns 5) (at ns 6) (at ns 7)
 
-abbrev pub fraction_in : Kind → ℕ → Fraction
-fraction_in kind.Absent n = FractionIs.Absent
-fraction_in kind.First n = FractionIs.Thousandths n
-fraction_in kind.Second n = FractionIs.TenMillionths n
-fraction_in kind.Third n = FractionIs.Hundredths n
-fraction_in kind.Unknown n = FractionIs.Absent
+abbrev pub fraction_in : Kind → ℕ → Option Fraction
+fraction_in kind.Absent n = None
+fraction_in kind.First n = Some (FractionIs.Thousandths n)
+fraction_in kind.Second n = Some (FractionIs.TenMillionths n)
+fraction_in kind.Third n = Some (FractionIs.Hundredths n)
+fraction_in kind.Unknown n = None
 
-abbrev pub channel_in : Kind → ℕ → Channel
-channel_in kind.Absent n = ChannelIs.Absent
-channel_in kind.First n = ChannelIs.Number n
-channel_in kind.Second n = ChannelIs.Absent
-channel_in kind.Third n = ChannelIs.Absent
-channel_in kind.Unknown n = ChannelIs.Absent
+abbrev pub channel_in : Kind → ℕ → Option ℕ
+channel_in kind.Absent n = None
+channel_in kind.First n = Some n
+channel_in kind.Second n = None
+channel_in kind.Third n = None
+channel_in kind.Unknown n = None
 
-abbrev pub flag_in : Kind → Flag
-flag_in kind.Absent = FlagIs.Absent
-flag_in kind.First = FlagIs.No
-flag_in kind.Second = FlagIs.Yes
-flag_in kind.Third = FlagIs.Absent
-flag_in kind.Unknown = FlagIs.Absent
+abbrev pub flag_in : Kind → Option Bool
+flag_in kind.Absent = None
+flag_in kind.First = Some false
+flag_in kind.Second = Some true
+flag_in kind.Third = None
+flag_in kind.Unknown = None
 
 -- a sign (1 for negative) and a magnitude
 abbrev pub signed_in : ℕ → ℕ → ℤ
 signed_in s m = signed (eqb s 1) m
 
-abbrev pub offset_in : Kind → ℤ → Offset
-offset_in kind.Absent z = OffsetIs.Absent
-offset_in kind.First z = OffsetIs.Minutes z
-offset_in kind.Second z = OffsetIs.Absent
-offset_in kind.Third z = OffsetIs.Absent
-offset_in kind.Unknown z = OffsetIs.Absent
+abbrev pub offset_in : Kind → ℤ → Option ℤ
+offset_in kind.Absent z = None
+offset_in kind.First z = Some z
+offset_in kind.Second z = None
+offset_in kind.Third z = None
+offset_in kind.Unknown z = None
 
-abbrev pub offset_at : List ℕ → Offset
+abbrev pub offset_at : List ℕ → Option ℤ
 offset_at ns = offset_in (kind_of (at ns 18)) (signed_in (at ns 19) (at ns 20))
 
-abbrev pub position_in : Kind → ℤ → ℤ → ℕ → Position
-position_in kind.Absent lat lon alt = PositionIs.Absent
-position_in kind.First lat lon alt = PositionIs.Degrees lat lon alt
-position_in kind.Second lat lon alt = PositionIs.Minutes lat lon
-position_in kind.Third lat lon alt = PositionIs.Absent
-position_in kind.Unknown lat lon alt = PositionIs.Absent
+abbrev pub position_in : Kind → ℤ → ℤ → ℕ → Option Position
+position_in kind.Absent lat lon alt = None
+position_in kind.First lat lon alt = Some (PositionIs.Degrees lat lon alt)
+position_in kind.Second lat lon alt = Some (PositionIs.Minutes lat lon)
+position_in kind.Third lat lon alt = None
+position_in kind.Unknown lat lon alt = None
 
-abbrev pub position_at : List ℕ → Position
+abbrev pub position_at : List ℕ → Option Position
 position_at ns = position_in (kind_of (at ns 21)) (signed_in (at ns 22) (at ns 23)) (signed_in (at ns 24) (at ns 25)) (at ns 26)
 
 -- "A kind that is none of these, a sign that is not 0 or 1, or a magnitude that does not fit an i32" where one of these is false
@@ -150,7 +143,7 @@ record_at ns =
     }
 
 -- "is refused as a bad record (7)", and so is any other number of numbers
-unfoldable pub record_of : List ℕ → Reading
+unfoldable pub record_of : List ℕ → Result Record Refusal
 record_of ns =
-    pick (eqb (length ns) size) (pick (is_flat ns) (reading.Read (record_at ns)) (reading.Refused refusal.BadRecord))
-    (reading.Refused refusal.BadRecord)
+    pick (eqb (length ns) size) (pick (is_flat ns) (Ok (record_at ns)) (Err refusal.BadRecord))
+    (Err refusal.BadRecord)

@@ -1,13 +1,12 @@
 -- The numbers of a record: "The numbers of an absent field are 0".
-use Rattle.std.specs.Prelude.{List, [], ◌∷◌, ◌++◌, ◌≡◌, ℕ, leb, nat_abs, length}
+use Rattle.record.specs.declared.refusal.Refusal.{Refusal}
+use Rattle.std.specs.Prelude.{List, [], ◌∷◌, ◌++◌, ◌≡◌, ℕ, leb, nat_abs, length, Option, None, Some, Result, Ok, Err}
 use Rattle.cond.specs.Pick.{one_if, pick}
 use Rattle.record.specs.declared.Date.{Date}
 use Rattle.record.specs.declared.Date.TheVariants as DateIs
 use Rattle.record.specs.declared.Fraction.{Fraction}
 use Rattle.record.specs.declared.Fraction.TheVariants as FractionIs
 use Rattle.record.specs.declared.Record.{Record}
-use Rattle.record.specs.declared.answer.Writing.{Writing}
-use Rattle.record.specs.declared.answer.Writing.TheVariants as writing
 use Rattle.record.specs.declared.refusal.Refusal.TheVariants as refusal
 use Rattle.forms.specs.Fields.Channel.{channel_choice, encode_channel}
 use Rattle.forms.specs.Fields.Date.{date_choice, encode_day, encode_month, encode_year}
@@ -23,17 +22,17 @@ abbrev pub size : ℕ
 size = 29
 
 -- a day of year that stands alone
-abbrev pub day_alone : Date → ℕ
-day_alone DateIs.Absent = 0
-day_alone (DateIs.Full y m d) = 0
-day_alone (DateIs.DayOfYear n) = n
+abbrev pub day_alone : Option Date → ℕ
+day_alone None = 0
+day_alone (Some (DateIs.Full y m d)) = 0
+day_alone (Some (DateIs.DayOfYear n)) = n
 
 -- the value of a fraction of any kind
-abbrev pub fraction_value : Fraction → ℕ
-fraction_value FractionIs.Absent = 0
-fraction_value (FractionIs.Thousandths n) = n
-fraction_value (FractionIs.TenMillionths n) = n
-fraction_value (FractionIs.Hundredths n) = n
+abbrev pub fraction_value : Option Fraction → ℕ
+fraction_value None = 0
+fraction_value (Some (FractionIs.Thousandths n)) = n
+fraction_value (Some (FractionIs.TenMillionths n)) = n
+fraction_value (Some (FractionIs.Hundredths n)) = n
 
 -- the numbers of a record in the order in which they stand in memory; a field's kind is the number of its variant in the block
 
@@ -56,10 +55,10 @@ abbrev pub numbers_of : Record → List ℕ
 numbers_of r = head_of r ++ tail_of r
 
 -- "too short to store into: refused 10"
-unfoldable pub put_answer : ℕ → Writing
-put_answer room = pick (leb size room) (writing.Written size) (writing.Refused refusal.ShortBuffer)
+unfoldable pub put_answer : ℕ → Result ℕ Refusal
+put_answer room = pick (leb size room) (Ok size) (Err refusal.ShortBuffer)
 
 -- what the contract of `put_record` says: its answer, and every number of the buffer afterwards
-pub record Put (r : Record) (w : Writing) (before after : List ℕ) : Type 0 where
+pub record Put (r : Record) (w : Result ℕ Refusal) (before after : List ℕ) : Type 0 where
   pub answer : w ≡ put_answer (length before)
   pub left : after ≡ left_of w (numbers_of r) before

@@ -5,10 +5,9 @@ ghost use Rattle.flat_record.specs.Decode.{offset_at, offset_fits, position_at, 
 ghost use Rattle.flat_record.specs.Encode.{size};
 
 use crate::SIZE;
-use record::answer::Reading;
 use record::refusal::Refusal;
 use record::sign::signed_number;
-use record::{Channel, Date, Flag, Fraction, Offset, Position, Record};
+use record::{Date, Fraction, Position, Record};
 
 // What the first number of a field says: absent, or which of its kinds it is.
 #[derive(Drop)]
@@ -32,54 +31,54 @@ fn kind_of(n: u32) -> Kind
     }
 }
 
-fn date_at(n: &[u32]) -> Date
+fn date_at(n: &[u32]) -> Option<Date>
     requires { length n.now ≡ size }
     ensures { result ≡ date_at n.now }
 {
     match kind_of(n[3]) {
-        Kind::Absent => Date::Absent,
-        Kind::First => Date::Full {
+        Kind::Absent => None,
+        Kind::First => Some(Date::Full {
             year: n[4],
             month: n[5],
             day: n[6],
-        },
-        Kind::Second => Date::DayOfYear(n[7]),
-        Kind::Third => Date::Absent,
-        Kind::Unknown => Date::Absent,
+        }),
+        Kind::Second => Some(Date::DayOfYear(n[7])),
+        Kind::Third => None,
+        Kind::Unknown => None,
     }
 }
 
-fn fraction_from(kind: u32, value: u32) -> Fraction
+fn fraction_from(kind: u32, value: u32) -> Option<Fraction>
     ensures { result ≡ fraction_in (kind_of kind) value }
 {
     match kind_of(kind) {
-        Kind::Absent => Fraction::Absent,
-        Kind::First => Fraction::Thousandths(value),
-        Kind::Second => Fraction::TenMillionths(value),
-        Kind::Third => Fraction::Hundredths(value),
-        Kind::Unknown => Fraction::Absent,
+        Kind::Absent => None,
+        Kind::First => Some(Fraction::Thousandths(value)),
+        Kind::Second => Some(Fraction::TenMillionths(value)),
+        Kind::Third => Some(Fraction::Hundredths(value)),
+        Kind::Unknown => None,
     }
 }
 
-fn channel_from(kind: u32, number: u32) -> Channel
+fn channel_from(kind: u32, number: u32) -> Option<u32>
     ensures { result ≡ channel_in (kind_of kind) number }
 {
     match kind_of(kind) {
-        Kind::Absent => Channel::Absent,
-        Kind::First => Channel::Number(number),
-        Kind::Second => Channel::Absent,
-        Kind::Third => Channel::Absent,
-        Kind::Unknown => Channel::Absent,
+        Kind::Absent => None,
+        Kind::First => Some(number),
+        Kind::Second => None,
+        Kind::Third => None,
+        Kind::Unknown => None,
     }
 }
 
 // An array, since the compiler would repeat a match on a kind in all that the writers do with the flag. Four elements are laid out at once.
-fn flag_from(kind: u32) -> Flag
+fn flag_from(kind: u32) -> Option<bool>
     ensures { result ≡ flag_in (kind_of kind) }
 {
-    let flags = [Flag::Absent, Flag::No, Flag::Yes, Flag::Absent];
+    let flags = [None, Some(false), Some(true), None];
     if 2 < kind {
-        return Flag::Absent;
+        return None;
     }
     flags[kind as usize]
 }
@@ -109,16 +108,16 @@ fn offset_fits(n: &[u32]) -> bool
     }
 }
 
-fn offset_at(n: &[u32]) -> Offset
+fn offset_at(n: &[u32]) -> Option<i32>
     requires { (length n.now ≡ size) × (offset_fits n.now ≡ true) }
     ensures { result ≡ offset_at n.now }
 {
     match kind_of(n[18]) {
-        Kind::Absent => Offset::Absent,
-        Kind::First => Offset::Minutes(signed_from(n[19], n[20])),
-        Kind::Second => Offset::Absent,
-        Kind::Third => Offset::Absent,
-        Kind::Unknown => Offset::Absent,
+        Kind::Absent => None,
+        Kind::First => Some(signed_from(n[19], n[20])),
+        Kind::Second => None,
+        Kind::Third => None,
+        Kind::Unknown => None,
     }
 }
 
@@ -143,23 +142,23 @@ fn position_fits(n: &[u32]) -> bool
     }
 }
 
-fn position_at(n: &[u32]) -> Position
+fn position_at(n: &[u32]) -> Option<Position>
     requires { (length n.now ≡ size) × (position_fits n.now ≡ true) }
     ensures { result ≡ position_at n.now }
 {
     match kind_of(n[21]) {
-        Kind::Absent => Position::Absent,
-        Kind::First => Position::Degrees {
+        Kind::Absent => None,
+        Kind::First => Some(Position::Degrees {
             latitude: signed_from(n[22], n[23]),
             longitude: signed_from(n[24], n[25]),
             altitude: n[26],
-        },
-        Kind::Second => Position::Minutes {
+        }),
+        Kind::Second => Some(Position::Minutes {
             latitude: signed_from(n[22], n[23]),
             longitude: signed_from(n[24], n[25]),
-        },
-        Kind::Third => Position::Absent,
-        Kind::Unknown => Position::Absent,
+        }),
+        Kind::Third => None,
+        Kind::Unknown => None,
     }
 }
 
@@ -207,15 +206,14 @@ fn record_at(n: &[u32]) -> Record
 }
 
 // The record of 29 numbers, or refusal 7.
-pub fn record_of(n: &[u32]) -> Reading
+pub fn record_of(n: &[u32]) -> Result<Record, Refusal>
     ensures { result ≡ record_of n.now }
 {
     if n.len() != SIZE {
-        return Reading::Refused(Refusal::BadRecord);
+        return Err(Refusal::BadRecord);
     }
-    if is_flat(n) {
-        Reading::Read(record_at(n))
-    } else {
-        Reading::Refused(Refusal::BadRecord)
+    if !is_flat(n) {
+        return Err(Refusal::BadRecord);
     }
+    Ok(record_at(n))
 }

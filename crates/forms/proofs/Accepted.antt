@@ -1,23 +1,22 @@
 -- What an accepted string passed.
+use Rattle.std.specs.Prelude.{Result, Ok, Err}
 use Rattle.cond.proofs.Kit.{◌≡◌, arith, Bool, eq-eqb, eqb, eqb-true, false, length, List, refl, true, ℕ}
 use Rattle.cond.specs.Pick.{pick}
 use Rattle.record.specs.declared.Record.{Record}
-use Rattle.record.specs.declared.answer.Reading.{Reading}
-use Rattle.record.specs.declared.answer.Reading.TheVariants as reading
 use Rattle.record.specs.declared.refusal.Refusal.{Refusal}
 use Rattle.forms.specs.Checksum.{checksums_hold}
 use Rattle.forms.specs.Form.{Form, carries, validated, ranges, read_by, read_layout, consistent, values_by}
 use Rattle.forms.specs.Places.{shape}
 use Rattle.forms.specs.Decode.{decode}
 
-pub refused_read : (x : Refusal) (r : Record) → reading.Refused x ≡ reading.Read r → ⊥
+pub refused_read : (x : Refusal) (r : Record) → Err x ≡ Ok r → ⊥
 refused_read x r h = let z : ◌≡◌ {A = ℕ} 0 1 = cc in omega arith
 
-read_same : (r t : Record) → reading.Read r ≡ reading.Read t → r ≡ t
+read_same : (r t : Record) → ◌≡◌ {A = Result Record Refusal} (Ok r) (Ok t) → r ≡ t
 read_same r t h = cc
 
 -- a test whose refusal was not given has passed
-pub passed : (b : Bool) (a : Reading) (x : Refusal) (r : Record) → pick b a (reading.Refused x) ≡ reading.Read r → (b ≡ true) × (a ≡ reading.Read r)
+pub passed : (b : Bool) (a : Result Record Refusal) (x : Refusal) (r : Record) → pick b a (Err x) ≡ Ok r → (b ≡ true) × (a ≡ Ok r)
 passed true a x r h = (refl, h)
 passed false a x r h = absurd (refused_read x r h)
 
@@ -29,7 +28,7 @@ pub record Accepted (d : Form) (s : List ℕ) (r : Record) : Type 0 where
   pub is_consistent : consistent (carries d) (values_by d s) ≡ true
   pub spelled : decode (carries d) (values_by d s) ≡ r
 
-pub accepted : (d : Form) (s : List ℕ) (r : Record) → read_by d s ≡ reading.Read r → Accepted d s r
+pub accepted : (d : Form) (s : List ℕ) (r : Record) → read_by d s ≡ Ok r → Accepted d s r
 unfolding read_by read_layout validated
 accepted d s r h =
     let a = passed (eqb (length s) d.size) _ _ r h in

@@ -3,7 +3,7 @@ use Rattle.cond.proofs.Kit.{[], ◌<◌, ◌∙◌, ◌∷◌, ◌≡◌, ◌≤
 use Rattle.cond.proofs.Tests.{both, either_way}
 use Rattle.calendar.proofs.Ranges.{date_range, ordinal_range}
 use Rattle.spelling.specs.Bytes.{all_are, digit, gap, groups_limit, groups_width}
-use Rattle.record.specs.Answers.{read_number}
+use Rattle.record.specs.Answers.{number_in}
 use Rattle.record.specs.declared.sign.SignRule.{SignRule}
 use Rattle.record.specs.Record.{date_time_in_range, in_range, time_in_range}
 use Rattle.forms.specs.BcdDigits.{BcdDigits, bcd_digits, has_digit_over_9}
@@ -71,7 +71,7 @@ over_ranges : (x : SignRule) (s : List ℕ) → length s ≡ 100 → has_digit_o
 over_ranges x s l h =
     either_way (ranges (carries (frame x)) (values_by (frame x) s)) (λ e. absurd (false≢true (ap not (sym (all_decimal x s l e)) ∙ h))) (λ e. e)
 
-over_four : (x : SignRule) (s : List ℕ) → length s ≡ 100 → has_digit_over_9 s ≡ true → read_number (validated (carries (frame x)) (values_by (frame x) s)) ≡ 4
+over_four : (x : SignRule) (s : List ℕ) → length s ≡ 100 → has_digit_over_9 s ≡ true → number_in (validated (carries (frame x)) (values_by (frame x) s)) ≡ 4
 unfolding validated
 over_four x s l h = simp (over_ranges x s l h)
 
@@ -82,5 +82,5 @@ bcd_digits_lem x =
       four = λ s h. rw (frame_read x s)
           (after (eqb (length s) 100) (shape (frame x).layout 0 s) (checksums_hold (frame x).checksums s (values_by (frame x) s)) _
           (λ e. over_four x s (eqb-true (length s) 100 e) h));
-      shaped_four = λ s h l p q. ap read_number (frame_read x s ∙ read_validated (frame x) s l p q) ∙ over_four x s l h;
+      shaped_four = λ s h l p q. ap number_in (frame_read x s ∙ read_validated (frame x) s l p q) ∙ over_four x s l h;
     }

@@ -1,10 +1,9 @@
 -- Demand 2 for an edition of the block: it keeps every field, and takes every good record.
+use Rattle.std.specs.Prelude.{Ok, Err}
 use Rattle.cond.proofs.Kit.{[], ◌&&◌, ◌++◌, ◌∙◌, ◌≡◌, ◌≤◌, ap, arith, drop, eq-eqb, eqb, eqb-true, le-leb, leb, length, List, refl, sym, true, ℕ}
 use Rattle.cond.specs.Pick.{pick}
 use Rattle.record.specs.Record.{is_good}
 use Rattle.record.specs.declared.Record.{Record}
-use Rattle.record.specs.declared.answer.Reading.TheVariants as reading
-use Rattle.record.specs.declared.answer.Writing.TheVariants as writing
 use Rattle.record.specs.declared.refusal.Refusal.TheVariants as refusal
 use Rattle.forms.specs.Block.{Edition, block_of, chosen_layout, read_block, layout_at}
 use Rattle.forms.specs.Carries.{carries_of}
@@ -59,18 +58,18 @@ module _ (e : Edition) (f : SoundEdition e) where
 
     -- refusal 8 "form 9 never", and 9 neither: a good record is written where the buffer has room
     pub block_answer : (n : ℕ) → is_good r ≡ true
-        → write_by (block_of e r) r n ≡ pick (leb (block_of e r).size n) (writing.Written (block_of e r).size) (writing.Refused refusal.ShortBuffer)
+        → write_by (block_of e r) r n ≡ pick (leb (block_of e r).size n) (Ok (block_of e r).size) (Err refusal.ShortBuffer)
     unfolding write_by block_of
     block_answer n g = simp (g, f.taken r, f.expressed r g)
 
-    pub block_written : (n : ℕ) → is_good r ≡ true → (block_of e r).size ≤ n → write_by (block_of e r) r n ≡ writing.Written (block_of e r).size
+    pub block_written : (n : ℕ) → is_good r ≡ true → (block_of e r).size ≤ n → write_by (block_of e r) r n ≡ Ok (block_of e r).size
     block_written n g l = block_answer n g ∙ simp (le-leb (block_of e r).size n l)
 
     pub block_length : is_good r ≡ true → length (bytes_by (block_of e r) (encode r)) ≡ (block_of e r).size
     block_length g = write_length (block_of e r) own_sound r g (unfold block_of in f.expressed r g)
 
     -- bytes that the record's own layout accepts are read as a block
-    block_found : (s : List ℕ) (q : Record) → is_good r ≡ true → read_by (block_of e r) s ≡ reading.Read q → read_block e s ≡ reading.Read q
+    block_found : (s : List ℕ) (q : Record) → is_good r ≡ true → read_by (block_of e r) s ≡ Ok q → read_block e s ≡ Ok q
     unfolding read_block read_by block_of
     block_found s q g h =
         let layout = chosen_layout e.lines (e.choices r) in
@@ -82,7 +81,7 @@ module _ (e : Edition) (f : SoundEdition e) where
         b.1
 
   -- what was read as a block is what its record's own layout accepts
-  read_again : (s : List ℕ) (r : Record) → read_block e s ≡ reading.Read r → Again e s r
+  read_again : (s : List ℕ) (r : Record) → read_block e s ≡ Ok r → Again e s r
   unfolding read_block read_by block_of
   read_again s r h =
       let ls = e.lines in
@@ -91,7 +90,7 @@ module _ (e : Edition) (f : SoundEdition e) where
       let a = passed (leb e.least (length s) && leb (length s) e.most) _ _ r h in
       let b = passed (eqb (layout_width (layout_at ls 0 s)) (length s)) (read_layout (layout_at ls 0 s) [] s) _ r a.1 in
       let w : length s ≡ layout_width (chosen_layout ls cs) = sym (rw (layout_at_lem ls 0 s) at (eqb-true (layout_width (layout_at ls 0 s)) (length s) b.0)) in
-      let d : read_by (form_of (chosen_layout ls cs)) s ≡ reading.Read r =
+      let d : read_by (form_of (chosen_layout ls cs)) s ≡ Ok r =
       simp (eq-eqb (length s) (layout_width (chosen_layout ls cs)) w) (rw (layout_at_lem ls 0 s) at b.1) in
       let c = read_write (form_of (chosen_layout ls cs)) (f.sound cs o) s r d in
       let m = f.own cs o r c.spellable c.complete c.nothing_else in
@@ -105,15 +104,15 @@ module _ (e : Edition) (f : SoundEdition e) where
             let t = taken_by (block_of e r) r (length out) k h in
             ap (read_block e) (front_written (block_of e r) r out k h (block_length r t.good ∙ t.size))
             ∙ block_found r _ r t.good
-            (write_read (block_of e r) (own_sound r) r t.good t.spellable t.complete ∙ ap reading.Read (unfold block_of in f.whole r));
+            (write_read (block_of e r) (own_sound r) r t.good t.spellable t.complete ∙ ap Ok (unfold block_of in f.whole r));
         behind = λ r out k h.
             let t = taken_by (block_of e r) r (length out) k h in
             back_written (block_of e r) r out k h (block_length r t.good ∙ t.size);
         again = λ s r out h l.
             let a = read_again s r h in
             let long = a.long in
-            let w : write_by (block_of e r) r (length out) ≡ writing.Written (length s) =
-            block_written r (length out) a.rewritten.good (omega arith) ∙ ap writing.Written (sym long) in
+            let w : write_by (block_of e r) r (length out) ≡ Ok (length s) =
+            block_written r (length out) a.rewritten.good (omega arith) ∙ ap Ok (sym long) in
             (w, left_written (block_of e r) r out (length s) w ∙ ap (λ b. b ++ drop (length s) out) a.rewritten.same_bytes_lem);
         complete = λ s r h. refl;
         alone = λ s r h. refl;

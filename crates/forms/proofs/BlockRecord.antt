@@ -1,9 +1,9 @@
 -- A record and the block's layouts: its own choices make a layout that takes and keeps the whole record, and a layout that does so is
 -- made by its own choices.
+use Rattle.std.specs.Prelude.{Option}
 use Rattle.cond.proofs.Kit.{[], ◌+◌, ◌<◌, ◌∙◌, ◌∷◌, ◌≡◌, ◌≤◌, ap, arith, Bool, drop, drop-cons, drop-length, get_or, length, List, lit<, refl, String, subst, suc, sym, true, zero, ℕ}
 use Rattle.cond.specs.Pick.{one_if}
 use Rattle.record.specs.Record.{is_good, is_yes}
-use Rattle.record.specs.declared.Flag.{Flag}
 use Rattle.record.specs.declared.Record.{Record}
 use Rattle.forms.specs.Block.{Line, block_lines, choices, chosen_layout, flag_line}
 use Rattle.forms.specs.Carries.{Carries, carries_of}
@@ -98,7 +98,7 @@ module _ (r : Record) where
 
 module _ (cs : List ℕ) (o : is_choice block_lines cs ≡ true) (r : Record) (w : has_words (chosen_layout block_lines cs) (encode r) ≡ true) where
   flag_own : (i : ℕ) → i < length block_lines → (key : String) (f : Slot) → get_or block_lines i [] ≡ flag_line key f → (b : Bool) → b ≡ is_present (get_or cs i 0)
-      → (x : Flag) → has_flag b x ≡ true → carried_flag b x ≡ x → encode r f ≡ one_if (is_yes x) → flag_choice x ≡ get_or cs i 0
+      → (x : Option Bool) → has_flag b x ≡ true → carried_flag b x ≡ x → encode r f ≡ one_if (is_yes x) → flag_choice x ≡ get_or cs i 0
   flag_own i l key f e b q x h k v =
       flag_choice_lem key f (get_or cs i 0) x (encode r) (subst (λ (m : Line). get_or cs i 0 < length m) e (choice_lt block_lines cs o i l)) (rw q at h) (rw q at k)
       (subst (λ (m : Line). has_words (get_or m (get_or cs i 0) []) (encode r) ≡ true) e (has_words_in block_lines cs (encode r) w o i)) v

@@ -1,9 +1,8 @@
 -- A good record tells less than each slot's bound, and what a form carries of it is good.
+use Rattle.std.specs.Prelude.{Option, None, Some}
 use Rattle.cond.proofs.Kit.{◌&&◌, ◌<◌, ◌≡◌, arith, Bool, false, false≢true, lit<, not, refl, true}
 use Rattle.cond.proofs.Tests.{both, pick_le}
 use Rattle.record.specs.Record.{channel_in_range, date_in_range, date_time_in_range, fraction_in_range, in_range, is_good, is_yes, offset_in_range, position_in_range, rest_in_range, time_in_range, zone_agrees}
-use Rattle.record.specs.declared.Flag.{Flag}
-use Rattle.record.specs.declared.Flag.TheVariants as FlagIs
 use Rattle.record.specs.declared.Record.{Record}
 use Rattle.forms.specs.Carries.{Carries}
 use Rattle.forms.specs.Fields.Flag.{is_carried, carried_flag}
@@ -70,12 +69,12 @@ module _ (r : Record) (c : Good r) where
       then (lit< tt and none))
 
 -- not both are yes in what is carried
-not_both : (a b : Bool) (x y : Flag) → not (is_yes x && is_yes y) ≡ true → not (is_yes (carried_flag a x) && is_yes (carried_flag b y)) ≡ true
+not_both : (a b : Bool) (x y : Option Bool) → not (is_yes x && is_yes y) ≡ true → not (is_yes (carried_flag a x) && is_yes (carried_flag b y)) ≡ true
 unfolding carried_flag
 not_both false b x y h = refl
-not_both true false FlagIs.Absent y h = refl
-not_both true false FlagIs.No y h = refl
-not_both true false FlagIs.Yes y h = refl
+not_both true false None y h = refl
+not_both true false (Some false) y h = refl
+not_both true false (Some true) y h = refl
 not_both true true x y h = h
 
 -- what is carried of a good record is in range

@@ -1,7 +1,7 @@
 -- Every valid string of a form ends with the last byte of its layout.
+use Rattle.std.specs.Prelude.{Ok}
 use Rattle.cond.proofs.Kit.{[], ◌++◌, ◌+◌, ◌-◌, ◌<◌, ◌∙◌, ◌∷◌, ◌≡◌, append-nil, arith, Bool, false, false≢true, get_or, length, length-append, List, ltb, ltb-true, refl, subst, suc, true, ℕ}
 use Rattle.record.specs.declared.Record.{Record}
-use Rattle.record.specs.declared.answer.Reading.TheVariants as reading
 use Rattle.forms.specs.Form.{Form, read_by, values_by}
 use Rattle.forms.specs.Places.{Layout, bytes_of, fixed, part, placed}
 use Rattle.forms.specs.Slots.{Values}
@@ -40,7 +40,7 @@ layout_end (part c f ∷ []) v h = absurd (false≢true h)
 layout_end (fixed bs ∷ []) v h = rw append-nil refl
 layout_end (p ∷ q ∷ ps) v h = last_behind (placed p v) (bytes_of (q ∷ ps) v) (some_bytes (q ∷ ps) v h) ∙ layout_end (q ∷ ps) v h
 
-pub end_byte_lem : (d : Form) → is_sound_form d ≡ true → ends_fixed d.layout ≡ true → (s : List ℕ) (r : Record) → read_by d s ≡ reading.Read r
+pub end_byte_lem : (d : Form) → is_sound_form d ≡ true → ends_fixed d.layout ≡ true → (s : List ℕ) (r : Record) → read_by d s ≡ Ok r
     → last_byte s ≡ end_byte d.layout
 end_byte_lem d o t s r h =
     subst (λ (x : List ℕ). last_byte x ≡ end_byte d.layout) (own d (sound_form d o) s r (accepted d s r h)) (layout_end d.layout (values_by d s) t)

@@ -1,11 +1,11 @@
 -- The bytes of a frame under a sign rule: what stands before, between and behind the sign and the parity does not hang on the rule, and the parity
 -- hangs on it by the sign alone.
+use Rattle.std.specs.Prelude.{Ok}
 use Rattle.cond.proofs.Kit.{[], ◌%◌, ◌++◌, ◌+◌, ◌<◌, ◌∙◌, ◌∷◌, ◌≡◌, ap, append_assoc, ap₂, arith, Bool, drop, eq-eqb, eqb, false, get_or, length, length-append, List, ne_eqb, refl, suc, sym, take, take_at, true, zero, zero-add, ℕ}
 use Rattle.cond.specs.Pick.{one_if}
 use Rattle.spelling.specs.Bytes.{bits_of, groups_of, ones}
 use Rattle.record.specs.Sign.{is_negative}
 use Rattle.record.specs.declared.Record.{Record}
-use Rattle.record.specs.declared.answer.Writing.TheVariants as writing
 use Rattle.record.specs.declared.sign.SignRule.{SignRule}
 use Rattle.record.specs.declared.sign.SignRule.TheVariants.{OneBelow}
 use Rattle.forms.specs.Checksum.{checksum_by, checksum_of, even_ones, with_checksum}
@@ -114,7 +114,7 @@ module _ (r : Record) (h : encode r half_hour < 2) where
       let q : n % 2 ≡ even x = omega arith in
       with_checksum_lem x (encode r) n ∙ ap₂ (λ (m k : ℕ). front ++ (m ∷ (middle ++ (k ∷ bytes_of back_layout (encode r))))) s q
 
-  pub frame_left : (x : SignRule) (out : List ℕ) (k : ℕ) → write_by (frame x) r (length out) ≡ writing.Written k
+  pub frame_left : (x : SignRule) (out : List ℕ) (k : ℕ) → write_by (frame x) r (length out) ≡ Ok k
       → left_by (frame x) r out ≡ front ++ (sign x ∷ (middle ++ (even x ∷ (bytes_of back_layout (encode r) ++ drop k out))))
   frame_left x out k w =
       left_written (frame x) r out k w ∙ ap (λ (l : List ℕ). l ++ drop k out) (frame_bytes x)

@@ -1,11 +1,12 @@
 -- The date of a frame is found by the calendar's search, which has that date alone; where it finds none, month 0 is out of range.
+use Rattle.std.specs.Prelude.{Option, Some, None}
 use Rattle.cond.proofs.Kit.{◌∙◌, ◌≡◌, ap, eqb, false≢true, length, List, refl, subst, sym, true, ℕ}
 use Rattle.cond.proofs.Tests.{both, either_way}
-use Rattle.calendar.specs.Answers.{date_of_day}
+use Rattle.calendar.specs.Answers.{date_day, date_month, date_of_day}
 use Rattle.calendar.specs.Calendar.{is_date}
 use Rattle.calendar.specs.declared.MonthDay.{MonthDay}
 use Rattle.calendar.proofs.DayOfYear.{day_of, found_day}
-use Rattle.record.specs.Answers.{read_number}
+use Rattle.record.specs.Answers.{number_in}
 use Rattle.record.specs.Record.{date_in_range, date_time_in_range, in_range, time_in_range}
 use Rattle.record.specs.declared.Record.{Record}
 use Rattle.record.specs.declared.sign.SignRule.{SignRule}
@@ -31,7 +32,7 @@ unfolding decode_date carries_of has
 date_of OneAbove v = refl
 date_of OneBelow v = refl
 
-found : (x : SignRule) (v : Values) (m d : ℕ) → IsDay (v year) (v ordinal) m d → (decode (carries (frame x)) v).date ≡ date_on (v year) (MonthDay.On m d)
+found : (x : SignRule) (v : Values) (m d : ℕ) → IsDay (v year) (v ordinal) m d → (decode (carries (frame x)) v).date ≡ date_on (v year) (Some (record { month = m; day = d }))
 found x v m d h = date_of x v ∙ ap (date_on (v year)) (day_of (v year) m d (v ordinal) h.0 h.1)
 
 -- a frame in its ranges tells a date
@@ -45,13 +46,13 @@ pub told : (y n : ℕ) → date_in_range (date_on y (date_of_day y n)) ≡ true 
 unfolding date_in_range is_date
 told y n h = go (date_of_day y n) refl h
   where
-    same : (m d k e : ℕ) → MonthDay.On k e ≡ MonthDay.On m d → (k ≡ m) × (e ≡ d)
-    same m d k e h = (cc, cc)
+    same : (k e : ℕ) (d : MonthDay) → Some (record { month = k; day = e }) ≡ Some d → (k ≡ d.month) × (e ≡ d.day)
+    same k e d h = (ap date_month h, ap date_day h)
 
-    go : (a : MonthDay) → date_of_day y n ≡ a → date_in_range (date_on y a) ≡ true → TheDay y n (date_on y a)
-    go (MonthDay.On m d) e h =
-        record { month = m; day = d; full = refl; is = found_day y n m d e; only = λ k f p. same m d k f (sym (day_of y k f n p.0 p.1) ∙ e) }
-    go MonthDay.NoSuchDate e h = absurd (false≢true h)
+    go : (a : Option MonthDay) → date_of_day y n ≡ a → date_in_range (date_on y a) ≡ true → TheDay y n (date_on y a)
+    go (Some d) e h =
+        record { month = d.month; day = d.day; full = refl; is = found_day y n d.month d.day e; only = λ k f p. same k f d (sym (day_of y k f n p.0 p.1) ∙ e) }
+    go None e h = absurd (false≢true h)
 
 only : (x : SignRule) (s : List ℕ) (r : Record) → Accepts (read_by (frame x) s) r → TheDay (values_by (frame x) s year) (values_by (frame x) s ordinal) r.date
 only x s r h =
@@ -60,7 +61,7 @@ only x s r h =
     let e : date_on (v year) (date_of_day (v year) (v ordinal)) ≡ r.date = sym (date_of x v) ∙ ap (λ q. q.date) (a.spelled ∙ h.1) in
     subst (TheDay (v year) (v ordinal)) e (told (v year) (v ordinal) (in_range_lem x v a.ranged))
 
-none_four : (x : SignRule) (v : Values) → ((m d : ℕ) → IsDay (v year) (v ordinal) m d → ⊥) → read_number (validated (carries (frame x)) v) ≡ 4
+none_four : (x : SignRule) (v : Values) → ((m d : ℕ) → IsDay (v year) (v ordinal) m d → ⊥) → number_in (validated (carries (frame x)) v) ≡ 4
 unfolding validated
 none_four x v none =
     either_way (ranges (carries (frame x)) v) (λ e. let t = told (v year) (v ordinal) (in_range_lem x v e) in absurd (none t.month t.day t.is))

@@ -1,11 +1,10 @@
 -- The two frames of a record differ in the sign, where the offset is not zero, and then in the parity; in nothing else.
+use Rattle.std.specs.Prelude.{Option, None, Some, ℤ}
 use Rattle.cond.proofs.Kit.{[], ◌∙◌, ◌∷◌, ◌≡◌, ap, ap₂, Bool, drop, eqb, false, length, List, ltb-true, refl, suc, sym, zero, ℕ}
 use lib.Dec.{eqb-suc-zero}
 use lib.IntN.{negsuc, pos}
 use Rattle.cond.specs.Pick.{pick}
-use Rattle.record.specs.Answers.{write_number}
-use Rattle.record.specs.declared.Offset.{Offset}
-use Rattle.record.specs.declared.Offset.TheVariants as OffsetIs
+use Rattle.record.specs.Answers.{number_in}
 use Rattle.record.specs.declared.Record.{Record}
 use Rattle.record.specs.declared.sign.SignRule.{SignRule}
 use Rattle.record.specs.declared.sign.SignRule.TheVariants.{OneAbove, OneBelow}
@@ -26,18 +25,18 @@ use Rattle.forms.proofs.Frames.{frame_has_words}
 use Rattle.forms.proofs.Opposites.{opposites}
 use Rattle.forms.proofs.Trips.{taken_by}
 
-sign_differs : (o : Offset) → eqb (encode_minus (opposite o)) (encode_minus o) ≡ eqb (encode_minutes o) 0
-sign_differs OffsetIs.Absent = refl
-sign_differs (OffsetIs.Minutes (pos zero)) = refl
-sign_differs (OffsetIs.Minutes (pos (suc n))) = sym (eqb-suc-zero n)
-sign_differs (OffsetIs.Minutes (negsuc n)) = sym (eqb-suc-zero n)
+sign_differs : (o : Option ℤ) → eqb (encode_minus (opposite o)) (encode_minus o) ≡ eqb (encode_minutes o) 0
+sign_differs None = refl
+sign_differs (Some (pos zero)) = refl
+sign_differs (Some (pos (suc n))) = sym (eqb-suc-zero n)
+sign_differs (Some (negsuc n)) = sym (eqb-suc-zero n)
 
 -- what a writer asks does not hang on the sign
 alike : (r : Record) (room : ℕ) → write_by (frame OneAbove) r room ≡ write_by (frame OneBelow) r room
 unfolding write_by is_expressible has has_words carries_of has_carried
 alike r room = refl
 
-exactly : (r : Record) (out : List ℕ) → write_number (write_by (frame OneAbove) r (length out)) ≡ 0
+exactly : (r : Record) (out : List ℕ) → number_in (write_by (frame OneAbove) r (length out)) ≡ 0
     → differences 0 (left_by (frame OneAbove) r out) (left_by (frame OneBelow) r out) ≡ pick (eqb (encode_minutes r.offset) 0) [] (64 ∷ 75 ∷ [])
 exactly r out n =
     let w = accepted_write (write_by (frame OneAbove) r (length out)) n in

@@ -1,11 +1,11 @@
 -- The forms of one length pass the tests: demand 2 and the law of the start byte follow for each by its number.
+use Rattle.std.specs.Prelude.{Ok}
 use Rattle.cond.proofs.Kit.{[], ◌&&◌, ◌++◌, ◌∷◌, ◌≡◌, Bool, eqb, List, lit≤, refl, subst, true, ℕ}
 use Rattle.cond.proofs.Tests.{both, either_way}
 use Rattle.spelling.specs.Bytes.{all_are, groups_limit, groups_width, is_word, same_bytes, letters}
 use Rattle.spelling.proofs.Groups.{full_groups, no_digit}
 use Rattle.spelling.proofs.Words.{all_different, all_long}
 use Rattle.record.specs.declared.Record.{Record}
-use Rattle.record.specs.declared.answer.Reading.TheVariants as reading
 use Rattle.forms.specs.Block.{first_edition}
 use Rattle.forms.specs.Form.{Form, read_by}
 use Rattle.forms.specs.Forms.{FormKind, Numbered, all_forms, block, form_kind_of, serial_forms, sized, unknown}
@@ -102,10 +102,10 @@ module _ (n : ℕ) (d : Form) (e : form_kind_of serial_forms n ≡ sized d) wher
   started : (starts_with (start_byte d.layout) d.layout ≡ true) × (ends_fixed d.layout ≡ true)
   started = both _ _ (form_passes starts serial_forms all_start n d e)
 
-  pub serial_start : (s : List ℕ) (r : Record) → read_by d s ≡ reading.Read r → OnlyAtHead (start_byte d.layout) s
+  pub serial_start : (s : List ℕ) (r : Record) → read_by d s ≡ Ok r → OnlyAtHead (start_byte d.layout) s
   serial_start = start_byte_lem d serial_sound (start_byte d.layout) started.0
 
-  pub serial_end : (s : List ℕ) (r : Record) → read_by d s ≡ reading.Read r → last_byte s ≡ end_byte d.layout
+  pub serial_end : (s : List ℕ) (r : Record) → read_by d s ≡ Ok r → last_byte s ≡ end_byte d.layout
   serial_end = end_byte_lem d serial_sound started.1
 
 -- the sum of an SPA string, and that of an RMC string, runs over all that it tells and stands behind that

@@ -1,4 +1,5 @@
 -- One byte replaced by another is refused: over any sound form whose sum runs over all that it tells and stands behind that.
+use Rattle.std.specs.Prelude.{Ok}
 use lib.Seq.{drop-set-add}
 use Rattle.cond.proofs.Kit.{[], ◌&&◌, ◌+◌, ◌-◌, ◌<◌, ◌∙◌, ◌∷◌, ◌≡◌, ◌≤◌, ◌⊎◌, ap, arith, Bool, drop, drop-set-lt, eqb-true, false, get_or, get_or-drop, get_or-set_same, get_or-take, inl, inr, leb, leb-true, length, length-drop, length-set, length-take-le, List, ltb, ltb-false, ltb-true, refl, set, subst, sym, take, take-set-le, take-set-lt, true, ℕ, ⊎_elim}
 use Rattle.cond.proofs.Parts.{drop_take}
@@ -6,7 +7,6 @@ use Rattle.cond.proofs.Tests.{both, either_way}
 use Rattle.spelling.specs.Bytes.{all_are, xor_from}
 use Rattle.spelling.proofs.Xor.{one_byte}
 use Rattle.record.specs.declared.Record.{Record}
-use Rattle.record.specs.declared.answer.Reading.TheVariants as reading
 use Rattle.forms.specs.Checksum.{Checksum, checksums_hold, exclusive_or, checksum_by}
 use Rattle.forms.specs.Form.{Form, read_by, values_by}
 use Rattle.forms.specs.Places.{Layout, bytes_of, is_of, value_at, values, width}
@@ -62,7 +62,7 @@ module _ (d : Form) (from n : ℕ) (m : d.checksums ≡ checksum_by exclusive_or
   unfolding checksums_hold
   total_of s v h = eqb-true _ _ (subst (λ (ds : List Checksum). checksums_hold ds s v ≡ true) m h)
 
-  checked : SoundForm d → (s : List ℕ) (r : Record) → read_by d s ≡ reading.Read r → Checked d from n s
+  checked : SoundForm d → (s : List ℕ) (r : Record) → read_by d s ≡ Ok r → Checked d from n s
   checked o s r h =
       let a = accepted d s r h in
       let e : bytes_of d.layout (values_by d s) ≡ s = own d o s r a in
@@ -118,7 +118,7 @@ module _ (d : Form) (from n : ℕ) (s : List ℕ) (i b : ℕ) (u : sum_over d.la
 
 -- two accepted strings of a form that differ in one byte at most are the same
 abbrev pub OneReplaced : Form → Type 0
-OneReplaced d = (s : List ℕ) (i b : ℕ) (r q : Record) → read_by d s ≡ reading.Read r → i < d.size → read_by d (set s i b) ≡ reading.Read q → b ≡ get_or s i 0
+OneReplaced d = (s : List ℕ) (i b : ℕ) (r q : Record) → read_by d s ≡ Ok r → i < d.size → read_by d (set s i b) ≡ Ok q → b ≡ get_or s i 0
 
 pub one_replaced : (d : Form) → is_sound_form d ≡ true → (from n : ℕ) → d.checksums ≡ checksum_by exclusive_or from n ∷ [] → from + n ≤ d.size
     → sum_over d.layout from n ≡ true → OneReplaced d

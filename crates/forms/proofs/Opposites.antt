@@ -1,11 +1,10 @@
 -- The sign rule decides what the sign means, and nothing else: read under the two rules, a frame is refused alike or tells opposite offsets.
+use Rattle.std.specs.Prelude.{Option, None, Some, Result, ℤ}
+use Rattle.record.specs.declared.refusal.Refusal.{Refusal}
 use Rattle.cond.proofs.Kit.{◌∙◌, ◌∷◌, ◌≡◌, ap, Bool, drop, false, leb, List, refl, true, ℕ}
 use Rattle.cond.specs.Pick.{pick}
 use Rattle.record.specs.Record.{in_range, offset_in_range, zone_agrees}
-use Rattle.record.specs.declared.Offset.{Offset}
-use Rattle.record.specs.declared.Offset.TheVariants as OffsetIs
 use Rattle.record.specs.declared.Record.{Record}
-use Rattle.record.specs.declared.answer.Reading.{Reading}
 use Rattle.record.specs.declared.sign.SignRule.{SignRule}
 use Rattle.record.specs.declared.sign.SignRule.TheVariants.{OneAbove, OneBelow}
 use Rattle.record.proofs.Signs.{nat_abs_opposite}
@@ -26,9 +25,9 @@ opposite_in_range : (r : Record) → in_range (record_with r (opposite r.offset)
 unfolding in_range offset_in_range
 opposite_in_range r = simp (opposite_range r.offset)
   where
-    opposite_range : (o : Offset) → offset_in_range (opposite o) ≡ offset_in_range o
-    opposite_range OffsetIs.Absent = refl
-    opposite_range (OffsetIs.Minutes z) = ap (λ (n : ℕ). leb n 840) (nat_abs_opposite z)
+    opposite_range : (o : Option ℤ) → offset_in_range (opposite o) ≡ offset_in_range o
+    opposite_range None = refl
+    opposite_range (Some z) = ap (λ (n : ℕ). leb n 840) (nat_abs_opposite z)
 
 pub decoded_by_lem : (x : SignRule) (s : List ℕ)
     → let r = decode (carries (frame OneBelow)) (values_by (frame OneBelow) s) in
@@ -37,7 +36,7 @@ unfolding carries_of has values decode_date decode_fraction decode_channel decod
 decoded_by_lem OneBelow s = refl
 decoded_by_lem OneAbove s = refl
 
-turned_pick : (b : Bool) (x y : Reading) → turned (pick b x y) ≡ pick b (turned x) (turned y)
+turned_pick : (b : Bool) (x y : Result Record Refusal) → turned (pick b x y) ≡ pick b (turned x) (turned y)
 turned_pick true x y = refl
 turned_pick false x y = refl
 

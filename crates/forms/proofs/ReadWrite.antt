@@ -1,9 +1,9 @@
 -- Accepted and written again: over any sound form, the writer takes the record and leaves the same bytes.
+use Rattle.std.specs.Prelude.{Ok}
 use Rattle.cond.proofs.Kit.{◌+◌, ◌∙◌, ◌≡◌, ap, arith, eqb-true, false, get_or, length, List, ltb-true, refl, subst, sym, true, ℕ}
 use Rattle.cond.proofs.Tests.{both, both_hold, either_way}
 use Rattle.record.specs.Record.{in_range, is_good, zone_agrees}
 use Rattle.record.specs.declared.Record.{Record}
-use Rattle.record.specs.declared.answer.Reading.TheVariants as reading
 use Rattle.forms.specs.Carries.{carries_of}
 use Rattle.forms.specs.Checksum.{Checksum, checksum_of, total_by}
 use Rattle.forms.specs.Fields.Offset.{offset_kind, offset_consistent}
@@ -129,7 +129,7 @@ module _ (d : Form) (o : SoundForm d) (s : List ℕ) (r : Record) (a : Accepted 
       }
 
 -- an accepted input is a good record that the writer takes, with nothing else in it, and written again is the same bytes
-pub read_write : (d : Form) → SoundForm d → (s : List ℕ) (r : Record) → read_by d s ≡ reading.Read r → Rewritten d s r
+pub read_write : (d : Form) → SoundForm d → (s : List ℕ) (r : Record) → read_by d s ≡ Ok r → Rewritten d s r
 unfolding q
 read_write d o s r h =
     let a = accepted d s r h in

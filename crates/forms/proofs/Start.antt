@@ -1,9 +1,9 @@
 -- The start byte of a form stands at the head of a valid string and nowhere else in it.
+use Rattle.std.specs.Prelude.{Ok}
 use Rattle.cond.proofs.Kit.{[], ◌&&◌, ◌++◌, ◌<◌, ◌∷◌, ◌≡◌, arith, Bool, eqb, eqb-false, eqb-true, false, false≢true, get_or, length, List, not, not-true, subst, suc, true, zero, ℕ}
 use Rattle.cond.proofs.Tests.{both}
 use Rattle.spelling.specs.Bytes.{all_are}
 use Rattle.record.specs.declared.Record.{Record}
-use Rattle.record.specs.declared.answer.Reading.TheVariants as reading
 use Rattle.forms.specs.Form.{Form, read_by, values_by}
 use Rattle.forms.specs.Places.{Layout, bytes_of, fixed, part}
 use Rattle.forms.specs.Slots.{Values}
@@ -40,6 +40,6 @@ layout_head b (fixed (c ∷ bs) ∷ ps) v h =
     let g = both (all_are (other_than b) bs) (allows_layout (other_than b) ps) e.1 in
     at_head b c (bs ++ bytes_of ps v) (eqb-true c b e.0) (append_all (other_than b) bs (bytes_of ps v) g.0 (layout_all (other_than b) ps v g.1))
 
-pub start_byte_lem : (d : Form) → is_sound_form d ≡ true → (b : ℕ) → starts_with b d.layout ≡ true → (s : List ℕ) (r : Record) → read_by d s ≡ reading.Read r
+pub start_byte_lem : (d : Form) → is_sound_form d ≡ true → (b : ℕ) → starts_with b d.layout ≡ true → (s : List ℕ) (r : Record) → read_by d s ≡ Ok r
     → OnlyAtHead b s
 start_byte_lem d o b t s r h = subst (OnlyAtHead b) (own d (sound_form d o) s r (accepted d s r h)) (layout_head b d.layout (values_by d s) t)

@@ -1,11 +1,9 @@
 -- Demand 2 for every sound form, told by the reader's and the writer's answers.
+use Rattle.std.specs.Prelude.{Result, Ok, Err}
 use Rattle.cond.proofs.Kit.{◌≡◌, ◌≤◌, arith, Bool, false, le-leb, leb, length, List, refl, true, ℕ}
 use Rattle.cond.specs.Pick.{pick}
 use Rattle.record.specs.Record.{is_good}
 use Rattle.record.specs.declared.Record.{Record}
-use Rattle.record.specs.declared.answer.Reading.TheVariants as reading
-use Rattle.record.specs.declared.answer.Writing.{Writing}
-use Rattle.record.specs.declared.answer.Writing.TheVariants as writing
 use Rattle.record.specs.declared.refusal.Refusal.{Refusal}
 use Rattle.forms.specs.CarriedPart.{carried_part}
 use Rattle.forms.specs.Form.{Form, bytes_by, carries, is_expressible, read_by, write_by}
@@ -18,25 +16,25 @@ use Rattle.forms.proofs.WriteRead.{write_length, write_read}
 -- what holds between the reader and the writer of a form
 pub record Trips (d : Form) : Type 0 where
   -- the writer makes as many bytes as the form has
-  pub sized : (r : Record) (n k : ℕ) → write_by d r n ≡ writing.Written k → length (bytes_by d (encode r)) ≡ d.size
+  pub sized : (r : Record) (n k : ℕ) → write_by d r n ≡ Ok k → length (bytes_by d (encode r)) ≡ d.size
   pub written_read :
-      (r : Record) (n k : ℕ) → write_by d r n ≡ writing.Written k → read_by d (bytes_by d (encode r)) ≡ reading.Read (carried_part (carries d) r)
+      (r : Record) (n k : ℕ) → write_by d r n ≡ Ok k → read_by d (bytes_by d (encode r)) ≡ Ok (carried_part (carries d) r)
   -- an accepted input gives a record that the writer takes
-  pub taken : (s : List ℕ) (r : Record) (n : ℕ) → d.size ≤ n → read_by d s ≡ reading.Read r → write_by d r n ≡ writing.Written d.size
-  pub read_written : (s : List ℕ) (r : Record) → read_by d s ≡ reading.Read r → bytes_by d (encode r) ≡ s
+  pub taken : (s : List ℕ) (r : Record) (n : ℕ) → d.size ≤ n → read_by d s ≡ Ok r → write_by d r n ≡ Ok d.size
+  pub read_written : (s : List ℕ) (r : Record) → read_by d s ≡ Ok r → bytes_by d (encode r) ≡ s
   -- it has all that the form carries, and nothing else
-  pub complete : (s : List ℕ) (r : Record) → read_by d s ≡ reading.Read r → has_carried (carries d) r ≡ true
-  pub nothing_else : (s : List ℕ) (r : Record) → read_by d s ≡ reading.Read r → carried_part (carries d) r ≡ r
+  pub complete : (s : List ℕ) (r : Record) → read_by d s ≡ Ok r → has_carried (carries d) r ≡ true
+  pub nothing_else : (s : List ℕ) (r : Record) → read_by d s ≡ Ok r → carried_part (carries d) r ≡ r
 
-pub refused_written : (x : Refusal) (k : ℕ) → writing.Refused x ≡ writing.Written k → ⊥
+pub refused_written : (x : Refusal) (k : ℕ) → Err x ≡ Ok k → ⊥
 refused_written x k h = let z : ◌≡◌ {A = ℕ} 0 1 = cc in omega arith
 
 -- a test whose refusal was not given has passed
-passed : (b : Bool) (a : Writing) (x : Refusal) (k : ℕ) → pick b a (writing.Refused x) ≡ writing.Written k → (b ≡ true) × (a ≡ writing.Written k)
+passed : (b : Bool) (a : Result ℕ Refusal) (x : Refusal) (k : ℕ) → pick b a (Err x) ≡ Ok k → (b ≡ true) × (a ≡ Ok k)
 passed true a x k h = (refl, h)
 passed false a x k h = absurd (refused_written x k h)
 
-written_size : (n k : ℕ) → writing.Written n ≡ writing.Written k → n ≡ k
+written_size : (n k : ℕ) → ◌≡◌ {A = Result ℕ Refusal} (Ok n) (Ok k) → n ≡ k
 written_size n k h = cc
 
 -- what a record passed that was written
@@ -46,7 +44,7 @@ pub record Taken (d : Form) (r : Record) (k : ℕ) : Type 0 where
   pub spellable : is_expressible d.layout (encode r) ≡ true
   pub size : d.size ≡ k
 
-pub taken_by : (d : Form) (r : Record) (n k : ℕ) → write_by d r n ≡ writing.Written k → Taken d r k
+pub taken_by : (d : Form) (r : Record) (n k : ℕ) → write_by d r n ≡ Ok k → Taken d r k
 unfolding write_by
 taken_by d r n k h =
     let a = passed (is_good r) _ _ k h in
@@ -55,7 +53,7 @@ taken_by d r n k h =
     let e = passed (leb d.size n) _ _ k c.1 in
     record { good = a.0; complete = b.0; spellable = c.0; size = written_size d.size k e.1 }
 
-takes : (d : Form) (s : List ℕ) (r : Record) (n : ℕ) → d.size ≤ n → Rewritten d s r → write_by d r n ≡ writing.Written d.size
+takes : (d : Form) (s : List ℕ) (r : Record) (n : ℕ) → d.size ≤ n → Rewritten d s r → write_by d r n ≡ Ok d.size
 unfolding write_by
 takes d s r n l c = simp (c.good, c.complete, c.spellable, le-leb d.size n l)
 

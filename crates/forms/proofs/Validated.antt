@@ -1,10 +1,10 @@
 -- The values of a good record are decoded to what its form carries of it, and the reader's ranges and consistency hold of them.
+use Rattle.std.specs.Prelude.{Ok}
 use Rattle.cond.proofs.Kit.{◌<◌, ◌∙◌, ◌≡◌, ap, eqb, false, List, lt-ltb, not, not-true, refl, sym, true, ℕ}
 use Rattle.cond.specs.Pick.{one_if, pick}
 use Rattle.cond.proofs.Tests.{both_hold}
 use Rattle.record.specs.Record.{in_range, is_yes, zone_agrees}
 use Rattle.record.specs.declared.Record.{Record}
-use Rattle.record.specs.declared.answer.Reading.TheVariants as reading
 use Rattle.forms.specs.Carries.{carries_of}
 use Rattle.forms.specs.Fields.Date.{date_kind, date_slots, encode_day, encode_month, weekday_in_range, weekday_consistent, encode_year}
 use Rattle.forms.specs.Fields.Fraction.{fraction_kind, fraction_slots}
@@ -133,7 +133,7 @@ module _ (ps : Layout) (c : Complete ps) (r : Record) (g : Good r) (v : Values) 
       (λ i. here day_seconds refl i ∙ sym (rw (t.time hour refl, t.time minute refl, t.time second refl) refl))
 
   -- so the reader takes it
-  pub validated_carried : has_carried (carries_of ps) r ≡ true → validated (carries_of ps) v ≡ reading.Read (carried_part (carries_of ps) r)
+  pub validated_carried : has_carried (carries_of ps) r ≡ true → validated (carries_of ps) v ≡ Ok (carried_part (carries_of ps) r)
   unfolding validated ranges consistent
   validated_carried h =
       let q = same_record h in
@@ -145,4 +145,4 @@ module _ (ps : Layout) (c : Complete ps) (r : Record) (g : Good r) (v : Values) 
       let leap : leap_consistent (carries_of ps).leap_second v ≡ true = unfold carries_of in leaps in
       let second : seconds_consistent (carries_of ps).day_seconds v ≡ true = unfold carries_of in seconds in
       let signed : signs_consistent (carries_of ps).offset (carries_of ps).position v ≡ true = unfold carries_of in signs h in
-      simp (inside, week, numbers, is_consistent, leap, second, signed, zoned) (ap reading.Read q)
+      simp (inside, week, numbers, is_consistent, leap, second, signed, zoned) (ap Ok q)

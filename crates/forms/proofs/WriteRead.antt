@@ -1,9 +1,9 @@
 -- Written and read back: over any sound form, a record keeps exactly its carried fields.
+use Rattle.std.specs.Prelude.{Ok}
 use Rattle.cond.proofs.Kit.{[], ◌<◌, ◌||◌, ◌∙◌, ◌≡◌, ap, append-nil, arith, Bool, eqb, eqb-true, false, get_or, length, List, refl, sym, true, ℕ}
 use Rattle.cond.specs.Pick.{pick}
 use Rattle.record.specs.Record.{is_good}
 use Rattle.record.specs.declared.Record.{Record}
-use Rattle.record.specs.declared.answer.Reading.TheVariants as reading
 use Rattle.forms.specs.Checksum.{checksums_hold, total_by, with_checksums}
 use Rattle.forms.specs.Form.{Form, bytes_by, carries, express_tests, is_expressible, read_by, values_by}
 use Rattle.forms.specs.CarriedPart.{carried_part}
@@ -112,7 +112,7 @@ module _ (d : Form) (o : SoundForm d) (r : Record) (g : is_good r ≡ true) (w :
   unfolding bytes_by
   write_length = long
 
-  pub write_read : has_carried (carries d) r ≡ true → read_by d (bytes_by d (encode r)) ≡ reading.Read (carried_part (carries d) r)
+  pub write_read : has_carried (carries d) r ≡ true → read_by d (bytes_by d (encode r)) ≡ Ok (carried_part (carries d) r)
   unfolding bytes_by
   write_read h =
       read_validated d (bytes_of d.layout (written d r)) long back.shaped checked

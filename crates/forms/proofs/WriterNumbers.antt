@@ -1,13 +1,13 @@
 -- A writer's number follows its tests in order, and its layout has no word in row 9 alone.
+use Rattle.std.specs.Prelude.{Ok, Err}
 use Rattle.cond.proofs.Kit.{◌%◌, ◌∙◌, ◌≡◌, and-true, arith, Bool, eqb, false, false≢true, leb, not, or-false, refl, sym, true, ℕ}
 use Rattle.cond.specs.Pick.{pick}
 use Rattle.spelling.specs.Bytes.{letters}
-use Rattle.record.specs.Answers.{write_number}
+use Rattle.record.specs.Answers.{number_in}
 use Rattle.record.specs.Record.{is_good}
 use Rattle.record.specs.declared.Record.{Record}
 use Rattle.record.specs.declared.sign.SignRule.{SignRule}
 use Rattle.record.specs.declared.sign.SignRule.TheVariants.{OneAbove, OneBelow}
-use Rattle.record.specs.declared.answer.Writing.TheVariants as writing
 use Rattle.record.specs.declared.refusal.Refusal.TheVariants as refusal
 use Rattle.forms.specs.Block.{block_of, first_edition}
 use Rattle.forms.specs.Encode.{encode}
@@ -29,14 +29,14 @@ use Rattle.forms.proofs.Worded.{Worded, half, not_not, three, two, zoned}
 abbrev Numbered : ℕ → FormKind → Type 0
 Numbered n l =
     (r : Record) (room : ℕ) → is_known l ≡ true
-    → write_number (write_as l r room) ≡ number_after (is_good r) (has_carried_as l r) (has_no_word n r) (leb (output_size l r) room)
+    → number_in (write_as l r room) ≡ number_after (is_good r) (has_carried_as l r) (has_no_word n r) (leb (output_size l r) room)
 
 sized_numbered : (n : ℕ) (d : Form) → Worded n d → Numbered n (sized d)
 unfolding write_as write_by
 sized_numbered n d w r room k = go (is_good r) (has_carried (carries d) r) (is_expressible d.layout (encode r)) (has_no_word n r) (leb d.size room) (w r)
   where
     go : (g c x y b : Bool) → (g ≡ true → x ≡ not y)
-        → write_number (pick g (pick c (pick x (pick b (writing.Written d.size) (writing.Refused refusal.ShortBuffer)) (writing.Refused refusal.NotExpressible)) (writing.Refused refusal.MissingField)) (writing.Refused refusal.BadRecord))
+        → number_in (pick g (pick c (pick x (pick b (Ok d.size) (Err refusal.ShortBuffer)) (Err refusal.NotExpressible)) (Err refusal.MissingField)) (Err refusal.BadRecord))
         ≡ number_after g c y b
     go false c x y b h = refl
     go true false x y b h = refl
@@ -44,7 +44,7 @@ sized_numbered n d w r room k = go (is_good r) (has_carried (carries d) r) (is_e
     go true true x false true h = rw (h refl)
     go true true x false false h = rw (h refl)
 
-written_number : (b : Bool) (k : ℕ) → write_number (pick b (writing.Written k) (writing.Refused refusal.ShortBuffer)) ≡ pick b 0 10
+written_number : (b : Bool) (k : ℕ) → number_in (pick b (Ok k) (Err refusal.ShortBuffer)) ≡ pick b 0 10
 written_number true k = refl
 written_number false k = refl
 
@@ -52,7 +52,7 @@ block_numbered : Numbered 9 (block first_edition)
 unfolding write_as write_by
 block_numbered r room k = go (is_good r) refl
   where
-    go : (g : Bool) → is_good r ≡ g → write_number (write_by (block_of first_edition r) r room) ≡ number_after g true false (leb (block_of first_edition r).size room)
+    go : (g : Bool) → is_good r ≡ g → number_in (write_by (block_of first_edition r) r room) ≡ number_after g true false (leb (block_of first_edition r).size room)
     go false e = simp e
     go true e = rw (block_answer first_edition first_sound r room e) (written_number (leb (block_of first_edition r).size room) (block_of first_edition r).size)
 
@@ -72,7 +72,7 @@ form_numbered =
     also block_numbered also tt)
     (λ n r room k. absurd (false≢true k))
 
-unknown_one : (l : FormKind) (r : Record) (room : ℕ) → is_known l ≡ false → write_number (write_as l r room) ≡ 1
+unknown_one : (l : FormKind) (r : Record) (room : ℕ) → is_known l ≡ false → number_in (write_as l r room) ≡ 1
 unfolding write_as
 unknown_one (sized d) r room h = absurd (false≢true (sym h))
 unknown_one (block e) r room h = absurd (false≢true (sym h))
@@ -86,7 +86,7 @@ nine_after true true true b h = (refl, refl, refl)
 nine_after true true false true h = absurd (omega arith)
 nine_after true true false false h = absurd (omega arith)
 
-only_nine : (n : ℕ) (r : Record) (room : ℕ) → write_number (write_as (form_kind_of all_forms n) r room) ≡ 9 → Passed n r × (has_no_word n r ≡ true)
+only_nine : (n : ℕ) (r : Record) (room : ℕ) → number_in (write_as (form_kind_of all_forms n) r room) ≡ 9 → Passed n r × (has_no_word n r ≡ true)
 unfolding has_carried_form
 only_nine n r room h = go (is_known (form_kind_of all_forms n)) refl
   where

@@ -1,7 +1,7 @@
 -- Row 4, "BCD digit over 9": the digits of a frame, and what a reader answers where one is over 9.
 use Rattle.std.specs.Prelude.{Bool, true, false, not, List, [], ◌∷◌, ◌≡◌, ℕ, suc, ◌-◌, leb, drop, length, take}
 use Rattle.spelling.specs.Bytes.{all_are, bits_number}
-use Rattle.record.specs.Answers.{read_number}
+use Rattle.record.specs.Answers.{number_in}
 use Rattle.record.specs.declared.sign.SignRule.{SignRule}
 use Rattle.forms.specs.All.{is_one_of}
 use Rattle.forms.specs.Checksum.{checksums_hold}
@@ -32,8 +32,8 @@ has_digit_over_9 s = not (all_are (λ d. leb d 9) (bcd_digits s))
 pub record BcdDigits (x : SignRule) : Type 0 where
   -- "Readers test in the order 1, 2, 3, 6, 4, 5": a frame that none of the tests before refuses is answered 4
   pub four :
-      (s : List ℕ) → has_digit_over_9 s ≡ true → is_one_of (2 ∷ 3 ∷ 6 ∷ []) (read_number (read_form (frame_form x) s)) ≡ false → read_number (read_form (frame_form x) s) ≡ 4
+      (s : List ℕ) → has_digit_over_9 s ≡ true → is_one_of (2 ∷ 3 ∷ 6 ∷ []) (number_in (read_form (frame_form x) s)) ≡ false → number_in (read_form (frame_form x) s) ≡ 4
   -- so is each of the right length, shape and parity
   pub shaped_four :
       (s : List ℕ) → has_digit_over_9 s ≡ true → length s ≡ 100 → shape (frame x).layout 0 s ≡ true
-      → checksums_hold (frame x).checksums s (values_by (frame x) s) ≡ true → read_number (read_form (frame_form x) s) ≡ 4
+      → checksums_hold (frame x).checksums s (values_by (frame x) s) ≡ true → number_in (read_form (frame_form x) s) ≡ 4

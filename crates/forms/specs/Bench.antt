@@ -1,13 +1,9 @@
 -- "Strings on the bench (A to L are the proved set)": tables of calls and their answers.
-use Rattle.std.specs.Prelude.{List, [], ◌∷◌, ℕ, ℤ, negsuc, pos, replicate, set}
+use Rattle.std.specs.Prelude.{List, [], ◌∷◌, ℕ, ℤ, negsuc, pos, replicate, set, Option, None, Some, Bool, true, false}
 use Rattle.spelling.specs.Bytes.{text}
 use Rattle.record.specs.Record.{empty_record}
-use Rattle.record.specs.declared.Channel.TheVariants as ChannelIs
 use Rattle.record.specs.declared.Date.TheVariants as DateIs
-use Rattle.record.specs.declared.Flag.{Flag}
-use Rattle.record.specs.declared.Flag.TheVariants.{Absent, No, Yes}
 use Rattle.record.specs.declared.Fraction.TheVariants as FractionIs
-use Rattle.record.specs.declared.Offset.TheVariants as OffsetIs
 use Rattle.record.specs.declared.Position.TheVariants as PositionIs
 use Rattle.record.specs.declared.Record.{Record}
 use Rattle.forms.specs.Case.{Case, Holds, ones_at, reads, writes}
@@ -18,11 +14,11 @@ use Rattle.forms.specs.YearCases.{year_cases}
 
 -- "J date 23-12-31, 23:59:59, sync yes"
 abbrev pub record_j : Record
-record_j = synced_of (DateIs.Full 23 12 31) 23 59 59 Yes
+record_j = synced_of (Some (DateIs.Full 23 12 31)) 23 59 59 (Some true)
 
 -- "L frame for 24-01-01 00:00:00, sync yes, offset 0, all else no: ones at 30, 52, 56 and 75 alone"
 abbrev pub record_l : Record
-record_l = framed_of (DateIs.Full 24 1 1) 0 0 0 Yes No (OffsetIs.Minutes (pos 0)) No No
+record_l = framed_of (Some (DateIs.Full 24 1 1)) 0 0 0 (Some true) (Some false) (Some (pos 0)) (Some false) (Some false)
 
 abbrev pub frame_l : List ℕ
 frame_l = ones_at (30 ∷ 52 ∷ 56 ∷ 75 ∷ [])
@@ -30,15 +26,15 @@ frame_l = ones_at (30 ∷ 52 ∷ 56 ∷ 75 ∷ [])
 -- "A to L are the proved set"
 abbrev pub cases : List Case
 cases =
-    reads "A" 1 (text "\u{2}D:01.01.24;T:1;U:12.00.00;  U \u{3}") 0 (standard_of (DateIs.Full 24 1 1) 12 0 0 Yes Yes Yes No No No)
+    reads "A" 1 (text "\u{2}D:01.01.24;T:1;U:12.00.00;  U \u{3}") 0 (standard_of (Some (DateIs.Full 24 1 1)) 12 0 0 (Some true) (Some true) (Some true) (Some false) (Some false) (Some false))
     ∷ reads "B" 1 (text "\u{2}D:01.01.24;T:2;U:12.00.00;  U \u{3}") 5 empty_record
     ∷ reads "C" 1 (text "\u{2}D:01.01.24;T:8;U:12.00.00;  U \u{3}") 4 empty_record
-    ∷ reads "D" 1 (text "\u{2}D:29.02.24;T:4;U:23.59.60;#*S!\u{3}") 0 (standard_of (DateIs.Full 24 2 29) 23 59 60 No No No Yes Yes No)
+    ∷ reads "D" 1 (text "\u{2}D:29.02.24;T:4;U:23.59.60;#*S!\u{3}") 0 (standard_of (Some (DateIs.Full 24 2 29)) 23 59 60 (Some false) (Some false) (Some false) (Some true) (Some true) (Some false))
     ∷ reads "E" 1 (text "\u{2}D:29.02.23;T:4;U:23.59.60;#*S!\u{3}") 4 empty_record
-    ∷ reads "F" 4 (text ">900WD:24-01-01 12.00;00.000:3A\r") 0 (split_of (DateIs.Full 24 1 1) 12 0 0 (FractionIs.Thousandths 0) ChannelIs.Absent)
+    ∷ reads "F" 4 (text ">900WD:24-01-01 12.00;00.000:3A\r") 0 (split_of (Some (DateIs.Full 24 1 1)) 12 0 0 (Some (FractionIs.Thousandths 0)) None)
     ∷ reads "G" 4 (text ">900WD:24-01-01 12.00;00.000:00\r") 6 empty_record
-    ∷ reads "H" 5 (text "XGU000229000000\r") 0 (synced_of (DateIs.Full 0 2 29) 0 0 0 Absent)
-    ∷ reads "I" 6 (text "\u{1}366:23:59:60?\r\n") 0 (synced_of (DateIs.DayOfYear 366) 23 59 60 No)
+    ∷ reads "H" 5 (text "XGU000229000000\r") 0 (synced_of (Some (DateIs.Full 0 2 29)) 0 0 0 None)
+    ∷ reads "I" 6 (text "\u{1}366:23:59:60?\r\n") 0 (synced_of (Some (DateIs.DayOfYear 366)) 23 59 60 (Some false))
     ∷ writes "J" 6 record_j 16 0 (text "\u{1}365:23:59:59 \r\n")
     ∷ reads "K" 2 (text "CH2 01.01.24 12:00:00.0000000\r\n") 4 empty_record
     ∷ writes "L" 8 record_l 100 0 frame_l
@@ -47,18 +43,18 @@ cases =
 
 -- the record of case A, and a record with an offset of so many minutes
 abbrev pub record_a : Record
-record_a = standard_of (DateIs.Full 24 1 1) 12 0 0 Yes Yes Yes No No No
+record_a = standard_of (Some (DateIs.Full 24 1 1)) 12 0 0 (Some true) (Some true) (Some true) (Some false) (Some false) (Some false)
 
 abbrev pub with_offset : ℤ → Record
-with_offset z = framed_of (DateIs.Full 24 1 1) 0 0 0 Yes No (OffsetIs.Minutes z) No No
+with_offset z = framed_of (Some (DateIs.Full 24 1 1)) 0 0 0 (Some true) (Some false) (Some z) (Some false) (Some false)
 
 -- the other lines of the bench: "Buffer of 31 bytes for form 1: 10; of 32: done. Offset 840 accepted, 841 a bad record. Offset 345 in
 -- form 8: 9. A block of 117 or 175 bytes: 2."; and the frame of case L with elements changed
 abbrev pub further : List Case
 further =
     reads "north" 3 (text "\u{2}01.01.24; 1; 13:00:00; +01:00; #*     ; 47.3500N   8.0625E  431m\u{3}") 0
-    (fields (DateIs.Full 24 1 1) 13 0 0 FractionIs.Absent ChannelIs.Absent No No Absent No No No
-    (OffsetIs.Minutes (pos 60)) (PositionIs.Degrees (pos 473500) (pos 80625) 431) Absent Absent)
+    (fields (Some (DateIs.Full 24 1 1)) 13 0 0 None None (Some false) (Some false) None (Some false) (Some false) (Some false)
+    (Some (pos 60)) (Some (PositionIs.Degrees (pos 473500) (pos 80625) 431)) None None)
     ∷ reads "south on a zero" 3 (text "\u{2}01.01.24; 1; 13:00:00; +01:00; #*     ;  0.0000S   8.0625E  431m\u{3}") 5 empty_record
     ∷ writes "buffer of 31" 1 record_a 31 10 []
     ∷ writes "buffer of 32" 1 record_a 32 0 (text "\u{2}D:01.01.24;T:1;U:12.00.00;  U \u{3}")
@@ -79,26 +75,26 @@ further =
     ∷ []
 
 -- a record with all that the writer of form 10 asks for, and this sync: it asks for neither fix nor leap
-abbrev pub record_sat : Flag → Record
-record_sat sync = standard_of (DateIs.Full 24 1 1) 12 0 0 sync Absent Yes No No Absent
+abbrev pub record_sat : Option Bool → Record
+record_sat sync = standard_of (Some (DateIs.Full 24 1 1)) 12 0 0 sync None (Some true) (Some false) (Some false) None
 
 -- form 10: the words of document 004 and no others, the weekday, and what the writer asks for
 abbrev pub sat_cases : List Case
 sat_cases =
-    reads "CET" 10 (text "\u{2}01.01.24/1/12:00:00CET #!\r\n\u{3}") 0 (standard_of (DateIs.Full 24 1 1) 12 0 0 No Absent No No Yes Absent)
-    ∷ reads "CEST" 10 (text "\u{2}01.07.24/1/23:59:60CEST  \r\n\u{3}") 0 (standard_of (DateIs.Full 24 7 1) 23 59 60 Yes Absent No Yes No Absent)
+    reads "CET" 10 (text "\u{2}01.01.24/1/12:00:00CET #!\r\n\u{3}") 0 (standard_of (Some (DateIs.Full 24 1 1)) 12 0 0 (Some false) None (Some false) (Some false) (Some true) None)
+    ∷ reads "CEST" 10 (text "\u{2}01.07.24/1/23:59:60CEST  \r\n\u{3}") 0 (standard_of (Some (DateIs.Full 24 7 1)) 23 59 60 (Some true) None (Some false) (Some true) (Some false) None)
     ∷ reads "MEZ" 10 (text "\u{2}01.01.24/1/12:00:00MEZ   \r\n\u{3}") 3 empty_record
     ∷ reads "UTC behind a space" 10 (text "\u{2}01.01.24/1/12:00:00 UTC  \r\n\u{3}") 3 empty_record
     ∷ reads "weekday 8" 10 (text "\u{2}01.01.24/8/12:00:00UTC   \r\n\u{3}") 4 empty_record
     ∷ reads "weekday 2" 10 (text "\u{2}01.01.24/2/12:00:00UTC   \r\n\u{3}") 5 empty_record
-    ∷ writes "UTC" 10 (record_sat Yes) 29 0 (text "\u{2}01.01.24/1/12:00:00UTC   \r\n\u{3}")
-    ∷ writes "without sync" 10 (record_sat Absent) 29 8 []
-    ∷ writes "buffer of 28" 10 (record_sat Yes) 28 10 []
+    ∷ writes "UTC" 10 (record_sat (Some true)) 29 0 (text "\u{2}01.01.24/1/12:00:00UTC   \r\n\u{3}")
+    ∷ writes "without sync" 10 (record_sat None) 29 8 []
+    ∷ writes "buffer of 28" 10 (record_sat (Some true)) 28 10 []
     ∷ []
 
 -- a frame's record with this date, and all else as in L
 abbrev pub framed_on : ℕ → ℕ → ℕ → Record
-framed_on y m d = framed_of (DateIs.Full y m d) 0 0 0 Yes No (OffsetIs.Minutes (pos 0)) No No
+framed_on y m d = framed_of (Some (DateIs.Full y m d)) 0 0 0 (Some true) (Some false) (Some (pos 0)) (Some false) (Some false)
 
 -- W-202: the way back from a year and a day of year, in leap years and others
 abbrev pub calendar_cases : List Case
@@ -110,10 +106,10 @@ calendar_cases =
     ∷ reads "day 0 of 2024" 8 (ones_at (52 ∷ 56 ∷ [])) 4 empty_record
     ∷ reads "day 1 of 2000" 8 (ones_at (30 ∷ 75 ∷ [])) 0 (framed_on 0 1 1)
     ∷ reads "day 365 of 1999" 8 (ones_at (30 ∷ 32 ∷ 36 ∷ 37 ∷ 40 ∷ 41 ∷ 50 ∷ 53 ∷ 55 ∷ 58 ∷ [])) 0 (framed_on 99 12 31)
-    ∷ writes "1 March 2023" 6 (synced_of (DateIs.Full 23 3 1) 0 0 0 Yes) 16 0 (text "\u{1}060:00:00:00 \r\n")
-    ∷ writes "1 March 2024" 6 (synced_of (DateIs.Full 24 3 1) 0 0 0 Yes) 16 0 (text "\u{1}061:00:00:00 \r\n")
+    ∷ writes "1 March 2023" 6 (synced_of (Some (DateIs.Full 23 3 1)) 0 0 0 (Some true)) 16 0 (text "\u{1}060:00:00:00 \r\n")
+    ∷ writes "1 March 2024" 6 (synced_of (Some (DateIs.Full 24 3 1)) 0 0 0 (Some true)) 16 0 (text "\u{1}061:00:00:00 \r\n")
     ∷ reads "Friday, 31 December 1999" 10 (text "\u{2}31.12.99/5/00:00:00UTC   \r\n\u{3}") 0
-    (standard_of (DateIs.Full 99 12 31) 0 0 0 Yes Absent Yes No No Absent)
+    (standard_of (Some (DateIs.Full 99 12 31)) 0 0 0 (Some true) None (Some true) (Some false) (Some false) None)
     ∷ []
 
 -- W-203: "sign 1 for an offset above zero, 0 for zero or below"; in form 11 "the sign as 01 had it"; "sign 1 on a zero stays 5, and 9 reads as

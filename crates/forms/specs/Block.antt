@@ -1,12 +1,11 @@
 -- The block: "Lines closed by LF, these keys in this order"; "A line is key, `=`, value. `-` is absent; time has no such value."
-use Rattle.std.specs.Prelude.{◌&&◌, List, ◌∷◌, ◌++◌, [], ℕ, ◌+◌, eqb, leb, length, get_or}
+use Rattle.record.specs.declared.refusal.Refusal.{Refusal}
+use Rattle.std.specs.Prelude.{◌&&◌, List, ◌∷◌, ◌++◌, [], ℕ, ◌+◌, eqb, leb, length, get_or, Result, Err}
 use Prim.Native.String.{String}
 use Rattle.cond.specs.Pick.{pick}
 use Rattle.spelling.specs.Bytes.{text}
 use Rattle.spelling.specs.Spelling.{digits, word}
 use Rattle.record.specs.declared.Record.{Record}
-use Rattle.record.specs.declared.answer.Reading.{Reading}
-use Rattle.record.specs.declared.answer.Reading.TheVariants as reading
 use Rattle.record.specs.declared.refusal.Refusal.TheVariants as refusal
 use Rattle.forms.specs.Fields.Channel.{channel_choice}
 use Rattle.forms.specs.Fields.Date.{date_choice}
@@ -99,11 +98,11 @@ pub record Edition : Type 0 where
   pub most : ℕ
 
 -- the answer of the reader: so many bytes, and all of them are these lines
-unfoldable pub read_block : Edition → List ℕ → Reading
+unfoldable pub read_block : Edition → List ℕ → Result Record Refusal
 read_block e s =
     pick (leb e.least (length s) && leb (length s) e.most)
-    (pick (eqb (layout_width (layout_at e.lines 0 s)) (length s)) (read_layout (layout_at e.lines 0 s) [] s) (reading.Refused refusal.WrongByte))
-    (reading.Refused refusal.WrongLength)
+    (pick (eqb (layout_width (layout_at e.lines 0 s)) (length s)) (read_layout (layout_at e.lines 0 s) [] s) (Err refusal.WrongByte))
+    (Err refusal.WrongLength)
 
 -- writing
 

@@ -2,7 +2,7 @@
 use Rattle.std.specs.Prelude.{List, [], ◌∷◌, ◌≡◌, ℕ, zero, suc, replicate, take}
 use Prim.Native.String.{String}
 use Rattle.cond.specs.Pick.{one_if, pick}
-use Rattle.record.specs.Answers.{read_number, read_record, write_number, written_length}
+use Rattle.record.specs.Answers.{number_in, read_record, written_length}
 use Rattle.record.specs.declared.Record.{Record}
 use Rattle.forms.specs.All.{is_one_of}
 use Rattle.forms.specs.Forms.{left_form, read_form, write_form}
@@ -16,9 +16,9 @@ pub data Case : Type 0 where
 
 -- the row with the answer that the definitions give; a writer is lent zeros
 abbrev pub answered : Case → Case
-answered (reads name form input number r) = reads name form input (read_number (read_form form input)) (read_record (read_form form input))
+answered (reads name form input number r) = reads name form input (number_in (read_form form input)) (read_record (read_form form input))
 answered (writes name form r room number bytes) =
-    writes name form r room (write_number (write_form form r room)) (take (written_length (write_form form r room)) (left_form form r (replicate room 0)))
+    writes name form r room (number_in (write_form form r room)) (take (written_length (write_form form r room)) (left_form form r (replicate room 0)))
 
 unfoldable pub answered_all : List Case → List Case
 answered_all [] = []

@@ -1,12 +1,9 @@
 -- A form of one length, and what its reader and its writer answer.
-use Rattle.std.specs.Prelude.{Bool, ◌&&◌, ◌||◌, List, ◌++◌, ◌∷◌, [], ◌≡◌, ℕ, leb, eqb, length, drop}
+use Rattle.record.specs.declared.refusal.Refusal.{Refusal}
+use Rattle.std.specs.Prelude.{Bool, ◌&&◌, ◌||◌, List, ◌++◌, ◌∷◌, [], ◌≡◌, ℕ, leb, eqb, length, drop, Result, Ok, Err}
 use Rattle.cond.specs.Pick.{pick}
 use Rattle.record.specs.Record.{in_range, is_good, zone_agrees}
 use Rattle.record.specs.declared.Record.{Record}
-use Rattle.record.specs.declared.answer.Reading.{Reading}
-use Rattle.record.specs.declared.answer.Reading.TheVariants as reading
-use Rattle.record.specs.declared.answer.Writing.{Writing}
-use Rattle.record.specs.declared.answer.Writing.TheVariants as writing
 use Rattle.record.specs.declared.refusal.Refusal.TheVariants as refusal
 use Rattle.forms.specs.All.{all}
 use Rattle.forms.specs.Carries.{Carries, carries_of}
@@ -74,20 +71,20 @@ consistent k v = all (consistency_tests k v)
 -- "Readers test in the order 1, 2, 3, 6, 4, 5"
 
 -- the last two tests, of what the bytes tell
-unfoldable pub validated : Carries → Values → Reading
+unfoldable pub validated : Carries → Values → Result Record Refusal
 validated k v =
-    pick (ranges k v) (pick (consistent k v) (reading.Read (decode k v)) (reading.Refused refusal.Disagreement)) (reading.Refused refusal.OutOfRange)
+    pick (ranges k v) (pick (consistent k v) (Ok (decode k v)) (Err refusal.Disagreement)) (Err refusal.OutOfRange)
 
 -- the tests of bytes that are as many as the layout asks
-unfoldable pub read_layout : Layout → List Checksum → List ℕ → Reading
+unfoldable pub read_layout : Layout → List Checksum → List ℕ → Result Record Refusal
 read_layout ps cs s =
     pick (shape ps 0 s)
-    (pick (checksums_hold cs s (values ps 0 s)) (validated (carries_of ps) (values ps 0 s)) (reading.Refused refusal.WrongChecksum))
-    (reading.Refused refusal.WrongByte)
+    (pick (checksums_hold cs s (values ps 0 s)) (validated (carries_of ps) (values ps 0 s)) (Err refusal.WrongChecksum))
+    (Err refusal.WrongByte)
 
 -- the answer of the reader
-unfoldable pub read_by : Form → List ℕ → Reading
-read_by d s = pick (eqb (length s) d.size) (read_layout d.layout d.checksums s) (reading.Refused refusal.WrongLength)
+unfoldable pub read_by : Form → List ℕ → Result Record Refusal
+read_by d s = pick (eqb (length s) d.size) (read_layout d.layout d.checksums s) (Err refusal.WrongLength)
 
 -- "writers 1, 7, 8, 9, 10"
 
@@ -104,30 +101,30 @@ unfoldable pub is_expressible : Layout → Values → Bool
 is_expressible ps v = all (express_tests ps v)
 
 -- the answer of the writer into a buffer of n bytes
-unfoldable pub write_by : Form → Record → ℕ → Writing
+unfoldable pub write_by : Form → Record → ℕ → Result ℕ Refusal
 write_by d r n =
     pick (is_good r)
     (pick (has_carried (carries d) r)
     (pick (is_expressible d.layout (encode r))
-    (pick (leb d.size n) (writing.Written d.size) (writing.Refused refusal.ShortBuffer))
-    (writing.Refused refusal.NotExpressible))
-    (writing.Refused refusal.MissingField))
-    (writing.Refused refusal.BadRecord)
+    (pick (leb d.size n) (Ok d.size) (Err refusal.ShortBuffer))
+    (Err refusal.NotExpressible))
+    (Err refusal.MissingField))
+    (Err refusal.BadRecord)
 
 -- the bytes of a form that tells v; a checksum is taken over bytes that tell none
 unfoldable pub bytes_by : Form → Values → List ℕ
 bytes_by d v = bytes_of d.layout (with_checksums d.checksums (bytes_of d.layout v) v)
 
 -- "A refused write .. changes no byte. A write that succeeds fills the first bytes ..; the bytes behind stay."
-abbrev pub left_of : Writing → List ℕ → List ℕ → List ℕ
-left_of (writing.Written n) bytes out = bytes ++ drop n out
-left_of (writing.Refused x) bytes out = out
+abbrev pub left_of : Result ℕ Refusal → List ℕ → List ℕ → List ℕ
+left_of (Ok n) bytes out = bytes ++ drop n out
+left_of (Err x) bytes out = out
 
 -- what the writer leaves in the buffer
 unfoldable pub left_by : Form → Record → List ℕ → List ℕ
 left_by d r out = left_of (write_by d r (length out)) (bytes_by d (encode r)) out
 
 -- what a writer's contract says: its answer, and every byte of the buffer afterwards
-pub record Wrote (d : Form) (r : Record) (w : Writing) (before after : List ℕ) : Type 0 where
+pub record Wrote (d : Form) (r : Record) (w : Result ℕ Refusal) (before after : List ℕ) : Type 0 where
   pub answer : w ≡ write_by d r (length before)
   pub left : after ≡ left_by d r before

@@ -1,11 +1,8 @@
 -- The forms by their numbers, and what a reader and a writer answer for each.
-use Rattle.std.specs.Prelude.{Bool, true, false, List, [], ◌∷◌, ◌++◌, ◌≡◌, ℕ, eqb, length}
+use Rattle.record.specs.declared.refusal.Refusal.{Refusal}
+use Rattle.std.specs.Prelude.{Bool, true, false, List, [], ◌∷◌, ◌++◌, ◌≡◌, ℕ, eqb, length, Result, Err}
 use Rattle.cond.specs.Pick.{pick}
 use Rattle.record.specs.declared.Record.{Record}
-use Rattle.record.specs.declared.answer.Reading.{Reading}
-use Rattle.record.specs.declared.answer.Reading.TheVariants as reading
-use Rattle.record.specs.declared.answer.Writing.{Writing}
-use Rattle.record.specs.declared.answer.Writing.TheVariants as writing
 use Rattle.record.specs.declared.sign.SignRule.{SignRule}
 use Rattle.record.specs.declared.sign.SignRule.TheVariants.{OneAbove, OneBelow}
 use Rattle.record.specs.declared.refusal.Refusal.TheVariants as refusal
@@ -63,21 +60,21 @@ unfoldable pub is_serial : ℕ → Bool
 is_serial n = is_known (form_kind_of serial_forms n)
 
 -- the reader's answer
-unfoldable pub read_as : FormKind → List ℕ → Reading
+unfoldable pub read_as : FormKind → List ℕ → Result Record Refusal
 read_as (sized d) s = read_by d s
 read_as (block e) s = read_block e s
-read_as unknown s = reading.Refused refusal.UnknownForm
+read_as unknown s = Err refusal.UnknownForm
 
-unfoldable pub read_form : ℕ → List ℕ → Reading
+unfoldable pub read_form : ℕ → List ℕ → Result Record Refusal
 read_form n s = read_as (form_kind_of all_forms n) s
 
 -- the writer's answer into a buffer of so many bytes
-unfoldable pub write_as : FormKind → Record → ℕ → Writing
+unfoldable pub write_as : FormKind → Record → ℕ → Result ℕ Refusal
 write_as (sized d) r room = write_by d r room
 write_as (block e) r room = write_by (block_of e r) r room
-write_as unknown r room = writing.Refused refusal.UnknownForm
+write_as unknown r room = Err refusal.UnknownForm
 
-unfoldable pub write_form : ℕ → Record → ℕ → Writing
+unfoldable pub write_form : ℕ → Record → ℕ → Result ℕ Refusal
 write_form n r room = write_as (form_kind_of all_forms n) r room
 
 -- what the writer leaves in the buffer
@@ -108,6 +105,6 @@ unfoldable pub carried_form : ℕ → Record → Record
 carried_form n r = carried_as (form_kind_of all_forms n) r
 
 -- what the contract of a writer of several forms says: its answer, and every byte of the buffer afterwards
-pub record WroteAs (l : FormKind) (r : Record) (w : Writing) (before after : List ℕ) : Type 0 where
+pub record WroteAs (l : FormKind) (r : Record) (w : Result ℕ Refusal) (before after : List ℕ) : Type 0 where
   pub answer : w ≡ write_as l r (length before)
   pub left : after ≡ left_as l r before

@@ -1,7 +1,7 @@
 -- W-202: "the frame's way back from a year and a day of year finds that date and no other, or gives 4 where there is none".
-use Rattle.std.specs.Prelude.{true, false, List, [], ◌∷◌, ◌≡◌, ℕ}
+use Rattle.std.specs.Prelude.{true, false, List, [], ◌∷◌, ◌≡◌, ℕ, Option, Some}
 use Rattle.calendar.specs.Calendar.{day_of_year, is_date}
-use Rattle.record.specs.Answers.{read_number}
+use Rattle.record.specs.Answers.{number_in}
 use Rattle.record.specs.declared.Date.{Date}
 use Rattle.record.specs.declared.Date.TheVariants as DateIs
 use Rattle.record.specs.declared.Record.{Record}
@@ -19,20 +19,20 @@ abbrev pub IsDay : ℕ → ℕ → ℕ → ℕ → Type 0
 IsDay y n m d = (is_date y m d ≡ true) × (day_of_year y m d ≡ n)
 
 -- the one date that is day n of the year yy
-pub record TheDay (y n : ℕ) (date : Date) : Type 0 where
+pub record TheDay (y n : ℕ) (date : Option Date) : Type 0 where
   pub month : ℕ
   pub day : ℕ
-  pub full : date ≡ DateIs.Full y month day
+  pub full : date ≡ Some (DateIs.Full y month day)
   pub is : IsDay y n month day
   pub only : (m d : ℕ) → IsDay y n m d → (m ≡ month) × (d ≡ day)
 
 -- of both frames
 pub record FrameDate (x : SignRule) : Type 0 where
   -- "finds that date": whatever date the year and the day of year are of
-  pub found : (v : Values) (m d : ℕ) → IsDay (v year) (v ordinal) m d → (decode (carries (frame x)) v).date ≡ DateIs.Full (v year) m d
+  pub found : (v : Values) (m d : ℕ) → IsDay (v year) (v ordinal) m d → (decode (carries (frame x)) v).date ≡ Some (DateIs.Full (v year) m d)
   -- "and no other": the date of an accepted frame
   pub only : (s : List ℕ) (r : Record) → Accepts (read_form (frame_form x) s) r → TheDay (values_by (frame x) s year) (values_by (frame x) s ordinal) r.date
   -- "or gives 4 where there is none": a frame that none of the tests before refuses
   pub none :
       (s : List ℕ) → ((m d : ℕ) → IsDay (values_by (frame x) s year) (values_by (frame x) s ordinal) m d → ⊥)
-      → is_one_of (2 ∷ 3 ∷ 6 ∷ []) (read_number (read_form (frame_form x) s)) ≡ false → read_number (read_form (frame_form x) s) ≡ 4
+      → is_one_of (2 ∷ 3 ∷ 6 ∷ []) (number_in (read_form (frame_form x) s)) ≡ false → number_in (read_form (frame_form x) s) ≡ 4

@@ -1,11 +1,9 @@
 -- W-203: "the two frames of one record differ exactly at 64 and 75, and only where its offset is not zero".
-use Rattle.std.specs.Prelude.{false, List, [], ◌∷◌, ◌≡◌, ℕ, suc, eqb, nat_abs}
+use Rattle.record.specs.declared.refusal.Refusal.{Refusal}
+use Rattle.std.specs.Prelude.{false, List, [], ◌∷◌, ◌≡◌, ℕ, suc, eqb, nat_abs, Option, Result, Ok, Err, ℤ}
 use Rattle.cond.specs.Pick.{pick}
-use Rattle.record.specs.declared.Offset.{Offset}
 use Rattle.record.specs.declared.Record.{Record}
 use Rattle.record.specs.declared.sign.SignRule.{SignRule}
-use Rattle.record.specs.declared.answer.Reading.{Reading}
-use Rattle.record.specs.declared.answer.Reading.TheVariants as reading
 use Rattle.forms.specs.Demand2.{number_into}
 use Rattle.forms.specs.Fields.Offset.{minutes_of, opposite}
 use Rattle.forms.specs.Forms.{frame_form, is_serial, left_form, read_form, write_form}
@@ -19,15 +17,15 @@ differences k (x ∷ xs) [] = k ∷ differences (suc k) xs []
 differences k (x ∷ xs) (y ∷ ys) = pick (eqb x y) (differences (suc k) xs ys) (k ∷ differences (suc k) xs ys)
 
 -- the record with this offset, all else as it is
-abbrev pub record_with : Record → Offset → Record
+abbrev pub record_with : Record → Option ℤ → Record
 record_with r o =
     fields r.date r.hour r.minute r.second r.fraction r.channel r.sync r.fix r.utc r.summer r.change r.leap
     o r.position r.dsp r.lsp
 
 -- the answer with the offset's sign turned
-abbrev pub turned : Reading → Reading
-turned (reading.Read r) = reading.Read (record_with r (opposite r.offset))
-turned (reading.Refused x) = reading.Refused x
+abbrev pub turned : Result Record Refusal → Result Record Refusal
+turned (Ok r) = Ok (record_with r (opposite r.offset))
+turned (Err x) = Err x
 
 pub record FrameSigns : Type 0 where
   -- forms 8 and 11 are written or refused alike

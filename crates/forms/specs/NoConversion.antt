@@ -1,9 +1,7 @@
 -- W-204: "Neither kind is turned into the other. Refusals: 8 where the wrong kind is there".
-use Rattle.std.specs.Prelude.{true, false, List, ◌⊎◌, ◌≡◌, ℕ, take}
-use Rattle.record.specs.Answers.{read_record, write_number}
+use Rattle.std.specs.Prelude.{true, false, List, ◌⊎◌, ◌≡◌, ℕ, take, None}
+use Rattle.record.specs.Answers.{read_record, number_in}
 use Rattle.record.specs.Record.{is_good}
-use Rattle.record.specs.declared.Fraction.TheVariants as FractionIs
-use Rattle.record.specs.declared.Position.TheVariants as PositionIs
 use Rattle.record.specs.declared.Record.{Record}
 use Rattle.forms.specs.Demand2.{length_into, number_into}
 use Rattle.forms.specs.Fields.Fraction.{has_fraction}
@@ -19,16 +17,16 @@ pub record NoConversion : Type 0 where
   -- a fraction or a position comes back as it was, or is absent
   pub same_fraction :
       (form : ℕ) (r : Record) (out : List ℕ) → number_into form r out ≡ 0
-      → ((read_back form r out).fraction ≡ r.fraction) ⊎ ((read_back form r out).fraction ≡ FractionIs.Absent)
+      → ((read_back form r out).fraction ≡ r.fraction) ⊎ ((read_back form r out).fraction ≡ None)
   pub same_position :
       (form : ℕ) (r : Record) (out : List ℕ) → number_into form r out ≡ 0
-      → ((read_back form r out).position ≡ r.position) ⊎ ((read_back form r out).position ≡ PositionIs.Absent)
+      → ((read_back form r out).position ≡ r.position) ⊎ ((read_back form r out).position ≡ None)
   -- of another kind than the form carries, it is refused with 8
   pub wrong_fraction :
       (form : ℕ) (r : Record) (room : ℕ) (d : Form) → form_kind_of all_forms form ≡ sized d → is_good r ≡ true
       → has_fraction (carries d).fraction r.fraction ≡ false
-      → write_number (write_form form r room) ≡ 8
+      → number_in (write_form form r room) ≡ 8
   pub wrong_position :
       (form : ℕ) (r : Record) (room : ℕ) (d : Form) → form_kind_of all_forms form ≡ sized d → is_good r ≡ true
       → has_position (carries d).position r.position ≡ false
-      → write_number (write_form form r room) ≡ 8
+      → number_in (write_form form r room) ≡ 8

@@ -1,14 +1,11 @@
 -- W-204: calls of form 12 and of the new kinds in the other forms, with their answers.
-use Rattle.std.specs.Prelude.{List, [], ◌∷◌, ◌++◌, ℕ, negsuc, pos}
+use Rattle.std.specs.Prelude.{List, [], ◌∷◌, ◌++◌, ℕ, negsuc, pos, Option, None, Some, true, false}
 use Prim.Native.String.{String}
 use Rattle.spelling.specs.Bytes.{text}
 use Rattle.record.specs.Record.{empty_record}
-use Rattle.record.specs.declared.Channel.TheVariants as ChannelIs
 use Rattle.record.specs.declared.Date.TheVariants as DateIs
-use Rattle.record.specs.declared.Flag.TheVariants.{Absent, No, Yes}
 use Rattle.record.specs.declared.Fraction.{Fraction}
 use Rattle.record.specs.declared.Fraction.TheVariants as FractionIs
-use Rattle.record.specs.declared.Offset.TheVariants as OffsetIs
 use Rattle.record.specs.declared.Position.{Position}
 use Rattle.record.specs.declared.Position.TheVariants as PositionIs
 use Rattle.record.specs.declared.Record.{Record}
@@ -16,15 +13,15 @@ use Rattle.forms.specs.Case.{Case, reads, writes}
 use Rattle.forms.specs.Records.{fields, placed_of, split_of}
 
 -- noon of 1 January 2024 with these kinds; the block's example `+4721.00 +00803.75` is 284,100 and 48,375 hundredths of a minute
-abbrev pub noon_of : Fraction → Position → Record
-noon_of f p = placed_of (DateIs.Full 24 1 1) 12 0 0 f Yes p
+abbrev pub noon_of : Option Fraction → Option Position → Record
+noon_of f p = placed_of (Some (DateIs.Full 24 1 1)) 12 0 0 f (Some true) p
 
-abbrev pub example : Position
-example = PositionIs.Minutes (pos 284100) (pos 48375)
+abbrev pub example : Option Position
+example = Some (PositionIs.Minutes (pos 284100) (pos 48375))
 
 -- the same place in ten-thousandths of a degree, the other kind
-abbrev pub example_degrees : Position
-example_degrees = PositionIs.Degrees (pos 473500) (pos 80625) 431
+abbrev pub example_degrees : Option Position
+example_degrees = Some (PositionIs.Degrees (pos 473500) (pos 80625) 431)
 
 -- the string of noon with these bytes from the latitude to the sum
 abbrev pub noon : String → List ℕ
@@ -39,12 +36,12 @@ block_on t =
 
 abbrev pub rmc_cases : List Case
 rmc_cases =
-    reads "the block's example" 12 (noon "4721.00,N,00803.75,E,0.0,0.0,010124,0.0,E*54") 0 (noon_of (FractionIs.Hundredths 0) example)
-    ∷ writes "the block's example" 12 (noon_of (FractionIs.Hundredths 0) example) 65 0 (noon "4721.00,N,00803.75,E,0.0,0.0,010124,0.0,E*54")
+    reads "the block's example" 12 (noon "4721.00,N,00803.75,E,0.0,0.0,010124,0.0,E*54") 0 (noon_of (Some (FractionIs.Hundredths 0)) example)
+    ∷ writes "the block's example" 12 (noon_of (Some (FractionIs.Hundredths 0)) example) 65 0 (noon "4721.00,N,00803.75,E,0.0,0.0,010124,0.0,E*54")
     ∷ reads "a Meinberg GPS164DHS" 12 (text "$GPRMC,221019.00,V,4742.21,N,01200.75,E,0.0,0.0,181223,0.0,E*4A\r\n") 0
-    (placed_of (DateIs.Full 23 12 18) 22 10 19 (FractionIs.Hundredths 0) No (PositionIs.Minutes (pos 286221) (pos 72075)))
+    (placed_of (Some (DateIs.Full 23 12 18)) 22 10 19 (Some (FractionIs.Hundredths 0)) (Some false) (Some (PositionIs.Minutes (pos 286221) (pos 72075))))
     ∷ reads "90 and 180 degrees" 12 (text "$GPRMC,235960.99,A,9000.00,S,18000.00,W,0.0,0.0,290224,0.0,E*53\r\n") 0
-    (placed_of (DateIs.Full 24 2 29) 23 59 60 (FractionIs.Hundredths 99) Yes (PositionIs.Minutes (negsuc 539999) (negsuc 1079999)))
+    (placed_of (Some (DateIs.Full 24 2 29)) 23 59 60 (Some (FractionIs.Hundredths 99)) (Some true) (Some (PositionIs.Minutes (negsuc 539999) (negsuc 1079999))))
     ∷ reads "89 degrees, 60 minutes" 12 (noon "8960.00,N,00803.75,E,0.0,0.0,010124,0.0,E*53") 4 empty_record
     ∷ reads "179 degrees, 60 minutes" 12 (noon "4721.00,N,17960.00,E,0.0,0.0,010124,0.0,E*54") 4 empty_record
     ∷ reads "beyond 90 degrees" 12 (noon "9000.01,N,00803.75,E,0.0,0.0,010124,0.0,E*5C") 4 empty_record
@@ -53,21 +50,21 @@ rmc_cases =
     ∷ reads "another sum" 12 (noon "4721.00,N,00803.75,E,0.0,0.0,010124,0.0,E*55") 6 empty_record
     ∷ reads "spaces for zeros" 12 (noon "4721.00,N,  803.75,E,0.0,0.0,010124,0.0,E*54") 3 empty_record
     ∷ reads "a speed" 12 (noon "4721.00,N,00803.75,E,0.1,0.0,010124,0.0,E*55") 3 empty_record
-    ∷ writes "buffer of 64" 12 (noon_of (FractionIs.Hundredths 0) example) 64 10 []
-    ∷ writes "hundredths over 99" 12 (noon_of (FractionIs.Hundredths 100) example) 65 7 []
+    ∷ writes "buffer of 64" 12 (noon_of (Some (FractionIs.Hundredths 0)) example) 64 10 []
+    ∷ writes "hundredths over 99" 12 (noon_of (Some (FractionIs.Hundredths 100)) example) 65 7 []
     ∷ []
 
 -- "Neither kind is turned into the other. Refusals: 8 where the wrong kind is there"
 abbrev pub kind_cases : List Case
 kind_cases =
-    writes "thousandths in form 12" 12 (noon_of (FractionIs.Thousandths 0) example) 65 8 []
-    ∷ writes "degrees in form 12" 12 (noon_of (FractionIs.Hundredths 0) example_degrees) 65 8 []
-    ∷ writes "hundredths in form 4" 4 (split_of (DateIs.Full 24 1 1) 12 0 0 (FractionIs.Hundredths 0) ChannelIs.Absent) 32 8 []
-    ∷ writes "hundredths in form 2" 2 (split_of (DateIs.Full 24 1 1) 12 0 0 (FractionIs.Hundredths 0) (ChannelIs.Number 0)) 31 8 []
+    writes "thousandths in form 12" 12 (noon_of (Some (FractionIs.Thousandths 0)) example) 65 8 []
+    ∷ writes "degrees in form 12" 12 (noon_of (Some (FractionIs.Hundredths 0)) example_degrees) 65 8 []
+    ∷ writes "hundredths in form 4" 4 (split_of (Some (DateIs.Full 24 1 1)) 12 0 0 (Some (FractionIs.Hundredths 0)) None) 32 8 []
+    ∷ writes "hundredths in form 2" 2 (split_of (Some (DateIs.Full 24 1 1)) 12 0 0 (Some (FractionIs.Hundredths 0)) (Some 0)) 31 8 []
     ∷ writes "minutes in form 3" 3
-    (fields (DateIs.Full 24 1 1) 12 0 0 FractionIs.Absent ChannelIs.Absent Yes Yes Absent No No No (OffsetIs.Minutes (pos 60)) example Absent Absent) 66 8 []
-    ∷ reads "block" 9 (block_on "+4721.00 +00803.75") 0 (noon_of (FractionIs.Hundredths 0) example)
-    ∷ writes "block" 9 (noon_of (FractionIs.Hundredths 0) example) 174 0 (block_on "+4721.00 +00803.75")
+    (fields (Some (DateIs.Full 24 1 1)) 12 0 0 None None (Some true) (Some true) None (Some false) (Some false) (Some false) (Some (pos 60)) example None None) 66 8 []
+    ∷ reads "block" 9 (block_on "+4721.00 +00803.75") 0 (noon_of (Some (FractionIs.Hundredths 0)) example)
+    ∷ writes "block" 9 (noon_of (Some (FractionIs.Hundredths 0)) example) 174 0 (block_on "+4721.00 +00803.75")
     ∷ reads "latitude in minutes, longitude in degrees" 9 (block_on "+4721.00 +008.0625 0431") 3 empty_record
     ∷ reads "latitude in degrees, longitude in minutes" 9 (block_on "+047.3500 +00803.75") 3 empty_record
     ∷ reads "minutes with an altitude" 9 (block_on "+4721.00 +00803.75 0431") 3 empty_record

@@ -1,18 +1,16 @@
 -- The valid strings of the serial forms, by the form's number: "n is the form's length", "A valid string of a form is n bytes of which
 -- none of the rows 2, 3, 6, 4 and 5 holds; its record is what the layout spells, all else absent."
-use Rattle.std.specs.Prelude.{List, [], ◌∷◌, ℕ, ◌-◌, length, get_or}
-use Rattle.std.proofs.Math.Option.{Option, none, some}
+use Rattle.record.specs.declared.refusal.Refusal.{Refusal}
+use Rattle.std.specs.Prelude.{List, [], ◌∷◌, ℕ, ◌-◌, length, get_or, Option, None, Some, Result, Ok, Err}
 use Rattle.record.specs.declared.Record.{Record}
-use Rattle.record.specs.declared.answer.Reading.{Reading}
-use Rattle.record.specs.declared.answer.Reading.TheVariants as reading
 use Rattle.forms.specs.Forms.{FormKind, block, form_kind_of, read_as, serial_forms, sized, unknown}
 use Rattle.forms.specs.Places.{Layout, fixed, part}
 use Rattle.forms.specs.Start.{start_byte}
 
 -- the record of an input that is accepted
-abbrev pub record_in : Reading → Option Record
-record_in (reading.Read r) = some r
-record_in (reading.Refused x) = none
+abbrev pub record_in : Result Record Refusal → Option Record
+record_in (Ok r) = Some r
+record_in (Err x) = None
 
 -- the record of a valid string, none for any other bytes
 unfoldable pub valid_of : ℕ → List ℕ → Option Record

@@ -1,7 +1,7 @@
 -- The rows of a writer, "given exactly when", in the order 1, 7, 8, 9, 10; and row 9 by itself.
 use Rattle.std.specs.Prelude.{Bool, true, false, ◌&&◌, ◌||◌, not, ◌≡◌, ℕ, ◌%◌, eqb, leb, nat_abs}
 use Rattle.cond.specs.Pick.{pick}
-use Rattle.record.specs.Answers.{write_number}
+use Rattle.record.specs.Answers.{number_in}
 use Rattle.record.specs.Record.{is_good, is_yes}
 use Rattle.record.specs.declared.Record.{Record}
 use Rattle.forms.specs.Block.{block_of}
@@ -31,12 +31,12 @@ pub record Passed (form : ℕ) (r : Record) : Type 0 where
 
 pub record WriterNumbers : Type 0 where
   -- "form is not 1..9", nor one that document 02 adds
-  pub one : (form : ℕ) (r : Record) (room : ℕ) → is_known (form_kind_of all_forms form) ≡ false → write_number (write_form form r room) ≡ 1
+  pub one : (form : ℕ) (r : Record) (room : ℕ) → is_known (form_kind_of all_forms form) ≡ false → number_in (write_form form r room) ≡ 1
   -- "writers 1, 7, 8, 9, 10"
   pub others :
       (form : ℕ) (r : Record) (room : ℕ) → is_known (form_kind_of all_forms form) ≡ true
-      → write_number (write_form form r room)
+      → number_in (write_form form r room)
       ≡ number_after (is_good r) (has_carried_form form r) (has_no_word form r) (leb (output_size (form_kind_of all_forms form) r) room)
   -- 9 is given then, and only then
-  pub nine : (form : ℕ) (r : Record) (room : ℕ) → Passed form r → has_no_word form r ≡ true → write_number (write_form form r room) ≡ 9
-  pub only_nine : (form : ℕ) (r : Record) (room : ℕ) → write_number (write_form form r room) ≡ 9 → Passed form r × (has_no_word form r ≡ true)
+  pub nine : (form : ℕ) (r : Record) (room : ℕ) → Passed form r → has_no_word form r ≡ true → number_in (write_form form r room) ≡ 9
+  pub only_nine : (form : ℕ) (r : Record) (room : ℕ) → number_in (write_form form r room) ≡ 9 → Passed form r × (has_no_word form r ≡ true)

@@ -1,12 +1,12 @@
 -- The part of a string at a place begins with its first group and goes on behind it, so each group is tested and read at its own place.
 use Rattle.forms.proofs.Layouts.{piece_length}
-use Rattle.spelling.proofs.Spelling.{sized_is, sized_value}
+use Rattle.spelling.proofs.Spelling.{sized_value}
 use Rattle.spelling.specs.Spelling.{bits, grouped, is_spelled, value_of}
-use Rattle.cond.proofs.Kit.{[], ◌&&◌, ◌*◌, ◌+◌, ◌<◌, ◌∙◌, ◌∷◌, ◌≡◌, ◌≤◌, ap, arith, Bool, drop, drop-drop, List, ltb, ltb-true, length, mul-le-mul_right, refl, take, take-take, true, ℕ}
+use Rattle.cond.proofs.Kit.{[], ◌&&◌, ◌*◌, ◌+◌, ◌<◌, ◌∙◌, ◌∷◌, ◌≡◌, ◌≤◌, and-false, ap, ap₂, arith, Bool, drop, drop-drop, eq-eqb, eqb, eqb-false, eqb-true, false, length, length-append, length-take, List, ltb, ltb-true, min-le_left, mul-le-mul_right, ne_eqb, refl, take, take-add, take-take, true, ℕ}
 use Rattle.cond.specs.Pick.{pick}
 use Rattle.cond.proofs.Parts.{drop_take}
-use Rattle.cond.proofs.Tests.{both}
-use Rattle.spelling.specs.Bytes.{Group, are_groups, bits_number, digit, digits_below, gap, group_width, groups_number, groups_width, is_group, same_bytes, all_are, is_bit, groups_limit}
+use Rattle.cond.proofs.Tests.{both, either_way}
+use Rattle.spelling.specs.Bytes.{Group, are_groups, bits_number, digit, digits_below, gap, groups_number, groups_width, same_bytes, all_are, is_bit, groups_limit}
 
 -- the first group of a part, and what is behind it
 module _ (s : List ℕ) (k w n : ℕ) where
@@ -16,25 +16,54 @@ module _ (s : List ℕ) (k w n : ℕ) where
   back : drop w (take (w + n) (drop k s)) ≡ take n (drop (k + w) s)
   back = drop_take w n (drop k s) ∙ ap (take n) (drop-drop w k s)
 
+-- two parts that are no longer than asked are as long where each of them is
+both_long : (a b m n : ℕ) → a ≤ m → b ≤ n → eqb (a + b) (m + n) ≡ (eqb a m && eqb b n)
+both_long a b m n h i =
+    either_way (eqb a m)
+    (λ e.
+    either_way (eqb b n)
+    (λ f. simp (e, f) (eq-eqb (a + b) (m + n) (omega (arith, eqb-true a m e, eqb-true b n f))))
+    (λ f. simp (e, f) (ne_eqb (a + b) (m + n) (λ q. eqb-false b n f (omega (arith, eqb-true a m e))))))
+    (λ e. simp e (ne_eqb (a + b) (m + n) (λ q. eqb-false a m e (omega arith))))
+
+sizes : (w n : ℕ) (y : List ℕ) → eqb (length (take (w + n) y)) (w + n) ≡ (eqb (length (take w y)) w && eqb (length (take n (drop w y))) n)
+sizes w n y =
+    ap (λ (m : ℕ). eqb m (w + n)) (ap length (take-add w n y) ∙ length-append (take w y) (take n (drop w y)))
+    ∙ both_long (length (take w y)) (length (take n (drop w y))) w n (omega (arith, length-take w y, min-le_left w (length y))) (omega (arith, length-take n (drop w y), min-le_left n (length (drop w y))))
+
+four : (a b c d : Bool) → ((a && b) && (c && d)) ≡ ((a && c) && (b && d))
+four false b c d = refl
+four true b false d = and-false b
+four true b true d = refl
+
+-- what is the fixed element is one
+one_long : (x : List ℕ) (e : ℕ) → (eqb (length x) 1 && same_bytes x (e ∷ [])) ≡ same_bytes x (e ∷ [])
+unfolding same_bytes
+one_long [] e = refl
+one_long (y ∷ []) e = refl
+one_long (y ∷ z ∷ x) e = simp and-false
+
 -- each group tested at its own place
 
 unfoldable pub are_at : List Group → ℕ → List ℕ → Bool
 are_at [] k s = true
-are_at (g ∷ gs) k s = is_group g (take (group_width g) (drop k s)) && are_at gs (k + group_width g) s
+are_at (digit w ∷ gs) k s = is_spelled (bits w) (take w (drop k s)) && are_at gs (k + w) s
+are_at (gap e ∷ gs) k s = same_bytes (take 1 (drop k s)) (e ∷ []) && are_at gs (k + 1) s
 
-pub groups_are : (gs : List Group) (k : ℕ) (s : List ℕ) → are_groups gs (take (groups_width gs) (drop k s)) ≡ are_at gs k s
-unfolding are_at are_groups groups_width same_bytes
-groups_are [] k s = refl
-groups_are (g ∷ gs) k s = simp (front s k (group_width g) (groups_width gs), back s k (group_width g) (groups_width gs), groups_are gs (k + group_width g) s)
-
--- the same of all of them, and of bits alone, where they lie inside
-module _ (k : ℕ) (s : List ℕ) where
-  pub groups_spelled : (b : ℕ) (gs : List Group) → k + groups_width gs ≤ length s
-      → is_spelled (grouped b gs) (take (groups_width gs) (drop k s)) ≡ are_at gs k s
-  groups_spelled b gs h = sized_is _ (grouped b gs) (piece_length k s (groups_width gs) h) ∙ groups_are gs k s
-
-  pub bits_spelled : (w : ℕ) → k + w ≤ length s → is_spelled (bits w) (take w (drop k s)) ≡ all_are is_bit (take w (drop k s))
-  bits_spelled w h = sized_is _ (bits w) (piece_length k s w h)
+pub groups_spelled : (b : ℕ) (gs : List Group) (k : ℕ) (s : List ℕ) → is_spelled (grouped b gs) (take (groups_width gs) (drop k s)) ≡ are_at gs k s
+unfolding are_at are_groups groups_width is_spelled same_bytes
+groups_spelled b [] k s = refl
+groups_spelled b (digit w ∷ gs) k s =
+    let n = groups_width gs in
+    rw (front s k w n, back s k w n, sizes w n (drop k s), drop-drop w k s)
+    (four (eqb (length (take w (drop k s))) w) (eqb (length (take n (drop (k + w) s))) n) (all_are is_bit (take w (drop k s))) (are_groups gs (take n (drop (k + w) s)))
+    ∙ ap (λ t. is_spelled (bits w) (take w (drop k s)) && t) (groups_spelled b gs (k + w) s))
+groups_spelled b (gap e ∷ gs) k s =
+    let n = groups_width gs in
+    let x = take 1 (drop k s) in
+    rw (front s k 1 n, back s k 1 n, sizes 1 n (drop k s), drop-drop 1 k s)
+    (four (eqb (length x) 1) (eqb (length (take n (drop (k + 1) s))) n) (same_bytes x (e ∷ [])) (are_groups gs (take n (drop (k + 1) s)))
+    ∙ ap₂ (λ t u. t && u) (one_long x e) (groups_spelled b gs (k + 1) s))
 
 -- each digit read at its own place
 

@@ -1,45 +1,42 @@
-// The record that the elements tell.
+//! The date, the sync and the offset that the elements tell.
 ghost use Rattle.std.specs.Prelude.{◌≡◌, true, ◌≤◌, length};
 ghost use Rattle.forms.specs.Fields.Date.{decode_date, year_and_day};
 ghost use Rattle.forms.specs.Fields.Flag.{by_quality, decode_flag};
 ghost use Rattle.record.specs.declared.sign.SignRule.TheVariants.{OneBelow};
 ghost use Rattle.forms.specs.Fields.Offset.{in_half_hours, decode_minutes, decode_offset, told_by};
-ghost use Rattle.forms.specs.Form.{carries, values_by};
-ghost use Rattle.forms.specs.Frame.{frame};
 ghost use Rattle.forms.specs.Slots.{half_hour, minus, quality};
-ghost use Rattle.forms.specs.Decode.{decode};
 ghost use Rattle.frame.specs.Layouts.{told};
 
 use crate::groups::{day_of_year, number_at, pair_number};
 use crate::sign::minus_by;
 use calendar::MonthDay;
+use record::Date;
 use record::sign::SignRule;
-use record::{Date, Flag, Offset, Record};
 
 // The date of a day of the year; where the year has no such day, month and day 0.
-fn date_at(s: &[u8]) -> Date
+pub(crate) fn date_at(s: &[u8]) -> Option<Date>
     requires { length s.now ≡ 100 }
     ensures { result ≡ decode_date year_and_day (told s.now) }
 {
     let year = pair_number(s, 50, 4, 4, 10, 100);
     let found = calendar::date_of_day(year, day_of_year(s));
     match found {
-        MonthDay::On { month, day } => Date::Full { year, month, day },
-        MonthDay::NoSuchDate => Date::Full {
+        Some(MonthDay { month, day }) => Some(Date::Full { year, month, day }),
+        None => Some(Date::Full {
             year,
             month: 0,
             day: 0,
-        },
+        }),
     }
 }
 
 // TFOM 0 is sync yes.
-fn sync_at(s: &[u8]) -> Flag
+pub(crate) fn sync_at(s: &[u8]) -> Option<bool>
     requires { length s.now ≡ 100 }
     ensures { result ≡ decode_flag by_quality 0 (told s.now quality) }
 {
     let tfom = number_at(s, 71, 4);
-    if tfom == 0 { Flag::Yes } else { Flag::No }
+    if tfom == 0 { Some(true) } else { Some(false) }
 }
 
 // No half hour, one, or an element that is neither.
@@ -64,28 +61,10 @@ pub(crate) fn offset_minutes(s: &[u8]) -> u32
     number_at(s, 65, 4) * 60 + half_hour(s) * 30
 }
 
-fn offset_at(s: &[u8], rule: SignRule) -> Offset
+pub(crate) fn offset_at(s: &[u8], rule: SignRule) -> Option<i32>
     requires { length s.now ≡ 100 }
     ensures { result ≡ told_by rule (decode_offset true (told s.now minus) (decode_minutes (in_half_hours OneBelow) (told s.now))) }
 {
     let minus = minus_by(rule, number_at(s, 64, 1) != 0);
-    Offset::Minutes(record::sign::signed_number(minus, offset_minutes(s)))
-}
-
-pub(crate) fn decode(s: &[u8], rule: SignRule) -> Record
-    requires { length s.now ≡ 100 }
-    ensures { result ≡ decode (carries (frame rule)) (values_by (frame rule) s.now) }
-{
-    Record {
-        hour: pair_number(s, 20, 4, 2, 10, 40),
-        minute: pair_number(s, 10, 4, 3, 10, 80),
-        second: pair_number(s, 1, 4, 3, 10, 80),
-        date: date_at(s),
-        sync: sync_at(s),
-        summer: places::flag_at(s, 63, 0),
-        offset: offset_at(s, rule),
-        dsp: places::flag_at(s, 62, 0),
-        lsp: places::flag_at(s, 60, 0),
-        ..Record::empty()
-    }
+    Some(record::sign::signed_number(minus, offset_minutes(s)))
 }

@@ -1,4 +1,4 @@
-// Groups of elements at places of a lent slice, low bit first: tested and read.
+//! Groups of elements at places of a lent slice, low bit first: tested and read.
 ghost use Rattle.std.specs.Prelude.{◌≡◌, ℕ, ◌+◌, ◌*◌, ◌^◌, ◌≤◌, length, take, drop};
 ghost use Rattle.spelling.specs.Bytes.{bits_number, groups_limit, groups_width};
 ghost use Rattle.spelling.specs.Spelling.{bits, grouped, is_spelled, value_of};
@@ -23,7 +23,7 @@ pub(crate) fn number_at(s: &[u8], at: usize, w: usize) -> u32
 
 // Two digits stand at a place, the low one first, with a fixed element between them.
 pub(crate) fn pair_at(s: &[u8], at: usize, low: usize, between: u8, high: usize) -> bool
-    requires { at + low + 1 + high ≤ length s.now }
+    requires { at + low + 1 + high ≤ 100 }
     ensures { (b : ℕ) → result ≡ is_spelled (grouped b (pair low between high)) (take (groups_width (pair low between high)) (drop at s.now)) }
 {
     bits_at(s, at, low) & places::is_at(s, at + low, between) & bits_at(s, at + low + 1, high)

@@ -1,15 +1,12 @@
-// What stands at each place of a frame.
-ghost use Rattle.std.specs.Prelude.{◌≡◌, length};
-ghost use Rattle.record.specs.declared.sign.SignRule.TheVariants.{OneBelow};
-ghost use Rattle.forms.specs.Frame.{frame_layout};
+//! What stands at each place of a frame, in pieces.
+ghost use Rattle.std.specs.Prelude.{◌≡◌};
 ghost use Rattle.forms.specs.Places.{shape};
 ghost use Rattle.frame.specs.Layouts.{date_layout, time_layout, zone_layout};
 
 use crate::groups::{bits_at, pair_at};
 
 // 0 to 29: seconds, minutes and hours.
-fn has_time(s: &[u8]) -> bool
-    requires { length s.now ≡ 100 }
+pub(crate) fn has_time(s: &[u8]) -> bool
     ensures { result ≡ shape time_layout 0 s.now }
 {
     places::is_at(s, 0, 2)
@@ -24,8 +21,7 @@ fn has_time(s: &[u8]) -> bool
 }
 
 // 30 to 59: day of year and year.
-fn has_date(s: &[u8]) -> bool
-    requires { length s.now ≡ 100 }
+pub(crate) fn has_date(s: &[u8]) -> bool
     ensures { result ≡ shape date_layout 30 s.now }
 {
     pair_at(s, 30, 4, 0, 4)
@@ -38,8 +34,7 @@ fn has_date(s: &[u8]) -> bool
 }
 
 // 60 to 79: lsp, the deleted second, dsp, summer time, the offset's sign, hours and half hour, TFOM and parity.
-fn has_zone(s: &[u8]) -> bool
-    requires { length s.now ≡ 100 }
+pub(crate) fn has_zone(s: &[u8]) -> bool
     ensures { result ≡ shape zone_layout 60 s.now }
 {
     bits_at(s, 60, 1)
@@ -54,17 +49,4 @@ fn has_zone(s: &[u8]) -> bool
         & bits_at(s, 75, 1)
         & places::text_at(s, 76, b"\0\0\0")
         & places::is_at(s, 79, 2)
-}
-
-// The pieces, and the seconds of the day.
-pub(crate) fn has_shape(s: &[u8]) -> bool
-    requires { length s.now ≡ 100 }
-    ensures { result ≡ shape (frame_layout OneBelow) 0 s.now }
-{
-    has_time(s)
-        & has_date(s)
-        & has_zone(s)
-        & pair_at(s, 80, 9, 2, 8)
-        & places::is_at(s, 98, 0)
-        & places::is_at(s, 99, 2)
 }

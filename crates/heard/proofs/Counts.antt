@@ -1,4 +1,5 @@
 -- One read more: its bytes stand behind those carried, so that its report goes on with the run.
+use Rattle.report.specs.Piece.{reported}
 use mathlib.Core.List.{flatten}
 use Rattle.cond.proofs.Kit.{[], ◌++◌, ◌+◌, ◌-◌, ◌<◌, ◌∷◌, ◌≡◌, ◌≤◌, append-nil, arith, drop, drop_at, length, length-append, length-take-le, List, refl, take, take-add, take-append-le, take_at, true, ℕ}
 use Rattle.std.proofs.Common.{Err, Ok, Result}
@@ -12,7 +13,6 @@ use Rattle.serial.proofs.Lengths.{length_most}
 use Rattle.report.specs.Piece.{ReportedPiece, piece_in}
 use Rattle.report.specs.Printed.{printed, records_in}
 use Rattle.report.specs.Stream.{none_yet, one_more}
-use Rattle.report.specs.declared.piece.PieceReport.TheVariants as piece
 use Rattle.report.proofs.Answered.{written_few, written_text}
 use Rattle.report.proofs.Whole.{flatten_more, whole_stream}
 use Rattle.heard.specs.Counted.{Counted}
@@ -39,7 +39,7 @@ going_none left told =
 module _ {form carried : ℕ} (before y : List ℕ) {got telegrams size k : ℕ} {out buffer' out' : List ℕ} (small : carried < length_of form)
     (long : 65536 ≡ length before) (same : length y ≡ length (take (65536 - carried) (drop carried before)))
     (fits : got ≤ length (take (65536 - carried) (drop carried before)))
-    (h : ReportedPiece form carried got (piece.Written telegrams size k)
+    (h : ReportedPiece form carried got (reported telegrams size k)
     (take carried before ++ (y ++ drop (65536 - carried) (drop carried before))) out buffer' out') where
   abbrev rest : List ℕ
   rest = drop (65536 - carried) (drop carried before)
@@ -60,7 +60,7 @@ module _ {form carried : ℕ} (before y : List ℕ) {got telegrams size k : ℕ}
   counted_more i =
       let stands : take (carried + length (take got y)) (take carried before ++ (y ++ rest)) ≡ take carried before ++ take got y = rw piece_long behind in
       let reported :
-      ReportedPiece form carried (length (take got y)) (piece.Written telegrams size k) (take carried before ++ (y ++ rest)) out buffer' out' =
+      ReportedPiece form carried (length (take got y)) (reported telegrams size k) (take carried before ++ (y ++ rest)) out buffer' out' =
       rw piece_long h in
       record {
         pieces = i.pieces ++ (take got y ∷ []);

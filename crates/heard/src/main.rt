@@ -4,17 +4,14 @@
 ghost use Rattle.std.specs.Prelude.{List, ◌≡◌, ℕ, ◌+◌, ◌-◌, ◌^◌, ◌/◌, ◌≤◌, ◌<◌, length, take, IfOk, OnOk, OnErr, IfSome};
 ghost use Rattle.std.specs.Io.KnownBytes.{Appends, Consumes, IsAtEnd, ReadConsumes};
 ghost use Rattle.forms.specs.Valid.{length_of};
-ghost use Rattle.report.specs.Piece.{ReportedPiece, piece_in};
+ghost use Rattle.report.specs.Piece.{ReportedPiece, piece_in, reported};
 ghost use Rattle.report.specs.Printed.{printed, records_in};
 ghost use Rattle.report.specs.Summary.{end_line};
-ghost use Rattle.report.specs.declared.piece.PieceReport.TheVariants as piece;
 ghost use Rattle.heard.specs.Answer.{answer_to};
 ghost use Rattle.heard.specs.Counted.{Counted};
 ghost use Rattle.heard.specs.Listened.{Listened, SomeTaken};
 ghost use Rattle.heard.specs.Output.{Output};
 
-use record::answer::Writing;
-use report::PieceReport;
 use std::io;
 use std::io::{Read, Write};
 
@@ -90,20 +87,19 @@ fn print_piece<W: Write>(
     writer: &mut W,
 ) -> io::Result<Printed>
     requires { (0 < length_of form) × (length buffer.old ≤ length out.old / 11) }
-    ensures reported { IfOk result (λ p. (bytes : ℕ) × ReportedPiece form carried got (piece.Written p.telegrams bytes p.carried) buffer.old out.old buffer.new out.new) }
+    ensures reported { IfOk result (λ p. (bytes : ℕ) × ReportedPiece form carried got (reported p.telegrams bytes p.carried) buffer.old out.old buffer.new out.new) }
     ensures told { OnOk result (Appends (W.contents writer.old) (W.contents writer.new) (printed (records_in form (piece_in carried got buffer.old)))) }
-    ensures err { OnErr result ((telegrams : ℕ) × (bytes : ℕ) × (k : ℕ) × ReportedPiece form carried got (piece.Written telegrams bytes k) buffer.old out.old buffer.new out.new) }
+    ensures err { OnErr result ((telegrams : ℕ) × (bytes : ℕ) × (k : ℕ) × ReportedPiece form carried got (reported telegrams bytes k) buffer.old out.old buffer.new out.new) }
 {
     match report::report_piece(form, carried, got, buffer, out) {
-        PieceReport::Written {
-            telegrams,
-            bytes,
-            carried,
-        } => {
-            print(writer, &out[..bytes])?;
-            Ok(Printed { telegrams, carried })
+        Ok(piece) => {
+            print(writer, &out[..piece.bytes])?;
+            Ok(Printed {
+                telegrams: piece.telegrams,
+                carried: piece.carried,
+            })
         }
-        PieceReport::Refused(_) => Ok(Printed {
+        Err(_) => Ok(Printed {
             telegrams: 0,
             carried: 0,
         }),
@@ -146,8 +142,8 @@ fn print_end<W: Write>(bytes: u64, telegrams: u64, out: &mut [u8], writer: &mut 
     ensures { 62 ≤ length out.old → OnOk result (Appends (W.contents writer.old) (W.contents writer.new) (end_line bytes telegrams)) }
 {
     match report::write_end(bytes, telegrams, out) {
-        Writing::Written(n) => print(writer, &out[..n]),
-        Writing::Refused(_) => Ok(()),
+        Ok(n) => print(writer, &out[..n]),
+        Err(_) => Ok(()),
     }
 }
 

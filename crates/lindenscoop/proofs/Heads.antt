@@ -1,14 +1,13 @@
 -- The head of a list, copied byte by byte, a state laid there, and a byte that ends no string stored where the state stands.
+use Rattle.std.specs.Prelude.{Option, None, Ok, Some}
+use Rattle.listener.specs.declared.passing.Moved.{Moved}
 use lib.Seq.{set-append_left}
 use Rattle.cond.proofs.Kit.{[], ◌++◌, ◌+◌, ◌<◌, ◌∙◌, ◌∷◌, ◌≡◌, ◌≤◌, add-one, ap, append_assoc, arith, drop, Fits, get_or, length, length-append, length-set, length-take-le, List, refl, set, sets-eq, sym, take, take-append-drop, take-suc, take-suc-set, w8, ℕ}
 use Rattle.spelling.specs.Stored.{stored}
 use Rattle.spelling.proofs.Stored.{stored_append, stored_in}
 use Rattle.serial.specs.Shape.{longest}
 use Rattle.listener.specs.Listening.{FedBy}
-use Rattle.listener.specs.declared.Heard.TheVariants as heard
 use Rattle.listener.specs.declared.Listener.{Listener}
-use Rattle.listener.specs.declared.passing.Passing.{Passing}
-use Rattle.listener.specs.declared.passing.Passing.TheVariants as passing
 use Rattle.listener.proofs.Steps.{passed}
 use Rattle.lindenscoop.specs.Buffers.{held}
 use Rattle.lindenscoop.specs.Chained.{next_in}
@@ -47,20 +46,19 @@ in_ring s p b h l =
     stored_in s p (b ∷ []) (omega arith) ∙ a
     ∙ sym (stored_in s 0 _ (rw k (omega arith)) ∙ sets-eq (set (take ring_size s) p b) s 0 (rw k (omega arith)) ∙ rw k)
 
-module _ (s : List ℕ) (b : ℕ) (room : state_size ≤ length s) {r : Passing} {place at kept distance : ℕ} (er : r ≡ passing_in s b)
-    (ep : r ≡ passing.Passed place at kept distance) where
+module _ (s : List ℕ) (b : ℕ) (room : state_size ≤ length s) {r : Option Moved} {m : Moved} (er : r ≡ passing_in s b) (ep : r ≡ Some m) where
   abbrev stepped : Listener
-  stepped = joined (listener_of s).form (set (listener_of s).bytes place b) at kept distance
+  stepped = joined (listener_of s).form (set (listener_of s).bytes m.place b) m.at m.kept m.distance
 
-  pub fed : (place < longest) × FedBy (listener_of s) b (record { next = stepped; heard = heard.Nothing })
+  pub fed : (m.place < longest) × FedBy (listener_of s) b (record { next = stepped; heard = Ok None })
   fed = passed (listener_of s) b (ring_long s room) refl er ep
 
-  pub fits : ((i : ℕ) → Fits w8 (get_or s i 0)) → Small at kept distance (form_in s)
+  pub fits : ((i : ℕ) → Fits w8 (get_or s i 0)) → Small m.at m.kept m.distance (form_in s)
   unfolding listener_of
   fits h = rw (← fed.1.next) at (next_fits (listener_of s) b (of_bytes s h))
 
-  pub moved : {d : List ℕ} → d ≡ numbered at kept distance (form_in s) (stored s place (b ∷ [])) → d ≡ next_in s b
+  pub moved : {d : List ℕ} → d ≡ numbered m.at m.kept m.distance (form_in s) (stored s m.place (b ∷ [])) → d ≡ next_in s b
   unfolding listener_of
   moved e =
-      state_laid stepped s (length-set (listener_of s).bytes place b ∙ ring_long s room) room (in_ring s place b fed.0 room) refl refl refl e
+      state_laid stepped s (length-set (listener_of s).bytes m.place b ∙ ring_long s room) room (in_ring s m.place b fed.0 room) refl refl refl e
       ∙ ap (λ l. held l s) fed.1.next

@@ -1,8 +1,8 @@
 -- A run over bytes, byte by byte.
+use Rattle.std.specs.Prelude.{None, Ok}
 use Rattle.cond.proofs.Kit.{◌+◌, ◌<◌, ◌∙◌, ◌≡◌, ◌≤◌, add-one, ap, arith, drop, drop-cons, drop_of_length-le, false, get_or, length, List, suc, sym, true, ℕ}
 use Rattle.stream.specs.Answer.{nothing}
 use Rattle.listener.specs.declared.Fed.{Fed}
-use Rattle.listener.specs.declared.Heard.TheVariants as heard
 use Rattle.listener.specs.declared.Listener.{Listener}
 use Rattle.listener.specs.Listening.{FedBy, answer_of, answer_to, next_of}
 use Rattle.listener.proofs.Steps.{same_form}
@@ -40,7 +40,7 @@ module _ (l₀ l : Listener) (s : List ℕ) (i : ℕ) (inv : run_of l₀ s ≡ b
         run : run_of l₀ s ≡ record { state = next_of l b; used = i + 1; answer = answer_to l b }
         run = inv ∙ rw (drop-cons s i 0 h, ap is_answer (sym fed.answer) ∙ e)
 
-  pub all_fed : length s ≤ i → RanAs l₀ s (ended l i heard.Nothing)
+  pub all_fed : length s ≤ i → RanAs l₀ s (ended l i (Ok None))
   unfolding run_of
   all_fed h =
       let run : run_of l₀ s ≡ record { state = l; used = i + 0; answer = nothing } = inv ∙ rw (drop_of_length-le s h) in

@@ -1,5 +1,6 @@
 -- A run answers nothing to all bytes that it used but the last, and leaves the state that these bytes leave.
-use Rattle.cond.proofs.Kit.{[], ◌++◌, ◌-◌, ◌<◌, ◌∷◌, ◌≡◌, ◌≤◌, ap, arith, Bool, drop, false, length, List, ltb, map, none, Option, refl, some, suc, take_at, true, zero, ℕ}
+use Rattle.std.specs.Prelude.{Option, None, Some}
+use Rattle.cond.proofs.Kit.{[], ◌++◌, ◌-◌, ◌<◌, ◌∷◌, ◌≡◌, ◌≤◌, ap, arith, Bool, drop, false, length, List, ltb, map, refl, suc, take_at, true, zero, ℕ}
 use Rattle.cond.specs.Pick.{pick}
 use Rattle.record.specs.declared.Record.{Record}
 use Rattle.forms.specs.Valid.{length_of, valid_of}
@@ -86,8 +87,8 @@ handed_told x r = ap handed (take_at (numbers_of x) (drop size r) size refl)
 
 overlap_told : (n d : ℕ) (o : Option Record) → Told (unless_overlap n d o)
 unfolding seen_by
-overlap_told n d none = λ r. refl
-overlap_told n d (some x) = pick_has Told (ltb d (n - 1)) _ _ (λ e r. refl) (λ e. handed_told x)
+overlap_told n d None = λ r. refl
+overlap_told n d (Some x) = pick_has Told (ltb d (n - 1)) _ _ (λ e r. refl) (λ e. handed_told x)
 
 answer_told : (l : Listener) (b : ℕ) → Told (answer_to l b)
 unfolding answer_to answer_by step_answer seen_by

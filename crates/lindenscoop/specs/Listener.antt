@@ -1,10 +1,11 @@
 -- What the functions of a listener answer, and every byte and number that they were lent afterwards.
+use Rattle.record.specs.Answers.{number_in}
 use Rattle.std.specs.Prelude.{List, ◌≡◌, ℕ}
 use Rattle.cond.specs.Pick.{pick}
 use Rattle.record.specs.declared.Record.{Record}
 use Rattle.stream.specs.Answer.{Answer, handed, nothing, refused}
 use Rattle.listener.specs.declared.Listener.{Listener}
-use Rattle.listener.specs.Listening.{answer_to, next_of, start_number, started_of}
+use Rattle.listener.specs.Listening.{answer_to, next_of, started_of}
 use Rattle.lindenscoop.specs.Buffers.{both_fit, held, shown, state_fits, too_short}
 use Rattle.lindenscoop.specs.Run.{run_of}
 use Rattle.lindenscoop.specs.State.{listener_of}
@@ -23,7 +24,7 @@ answer_numbers (refused c) r = r
 
 -- "A new listener for a wrong form answers 1 and a state of form 0 with no bytes and distance 0."
 pub record StartedAs (form : ℕ) (s : List ℕ) (n : ℕ) (s' : List ℕ) : Type 0 where
-  pub number : n ≡ pick (state_fits s) (start_number (started_of form).answer) too_short
+  pub number : n ≡ pick (state_fits s) (number_in (started_of form).answer) too_short
   pub state : s' ≡ pick (state_fits s) (held (started_of form).listener s) s
 
 -- an answer given, the state that it leaves stored, and the record if one is handed out; or refusal 10 and no buffer changed

@@ -1,9 +1,9 @@
 -- A listener that is fed bytes one after the other, up to the first that is answered by anything but nothing.
-use Rattle.std.specs.Prelude.{Bool, true, false, List, [], ◌∷◌, ◌≡◌, ℕ, suc}
+use Rattle.record.specs.declared.refusal.Refusal.{Refusal}
+use Rattle.std.specs.Prelude.{Bool, true, false, List, [], ◌∷◌, ◌≡◌, ℕ, suc, Option, Result}
 use Rattle.cond.specs.Pick.{pick}
 use Rattle.record.specs.declared.Record.{Record}
 use Rattle.stream.specs.Answer.{Answer, handed, nothing, refused}
-use Rattle.listener.specs.declared.Heard.{Heard}
 use Rattle.listener.specs.declared.Listener.{Listener}
 use Rattle.listener.specs.Listening.{answer_of, answer_to, next_of}
 use Rattle.lindenscoop.specs.declared.run.Ran.{Ran}
@@ -33,7 +33,7 @@ run_of l (b ∷ s) =
 abbrev pub joined : ℕ → List ℕ → ℕ → ℕ → ℕ → Listener
 joined form bytes at kept distance = record { bytes = bytes; at = at; kept = kept; distance = distance; form = form }
 
-abbrev pub ended : Listener → ℕ → Heard → Ran
+abbrev pub ended : Listener → ℕ → Result (Option Record) Refusal → Ran
 ended l used x = record { listener = l; used = used; heard = x }
 
 -- what the contract of `feed_until` says

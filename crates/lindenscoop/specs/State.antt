@@ -1,11 +1,11 @@
 -- A listener in bytes: the ring, then `at`, `kept`, `distance` and `form`, one byte each, the last with the version of this layout.
-use Rattle.std.specs.Prelude.{List, [], ◌∷◌, ◌++◌, ℕ, ◌*◌, ◌+◌, ◌/◌, ◌<◌, get_or, take}
+use Rattle.listener.specs.declared.passing.Moved.{Moved}
+use Rattle.std.specs.Prelude.{List, [], ◌∷◌, ◌++◌, ℕ, ◌*◌, ◌+◌, ◌/◌, ◌<◌, get_or, take, Option}
 use Rattle.std.specs.Int.Bits.{bit_xor}
 use Rattle.spelling.specs.Stored.{stored}
 use Rattle.serial.specs.Shape.{shape_of}
 use Rattle.listener.specs.Passing.{passing_of}
 use Rattle.listener.specs.declared.Listener.{Listener}
-use Rattle.listener.specs.declared.passing.Passing.{Passing}
 
 -- the bytes of the ring, and of all
 abbrev pub ring_size : ℕ
@@ -63,5 +63,5 @@ numbered at kept distance form s =
     (versioned form ∷ [])
 
 -- what a byte that ends no string leaves of the listener that bytes hold
-abbrev pub passing_in : List ℕ → ℕ → Passing
+abbrev pub passing_in : List ℕ → ℕ → Option Moved
 passing_in s b = passing_of (shape_of (listener_of s).form) (listener_of s).at (listener_of s).kept (listener_of s).distance b

@@ -4,6 +4,7 @@ ghost use Rattle.lindenscoop.specs.AddSecond.{AddedAs, added_numbers, record_giv
 
 use racks::{Added, Row};
 use record::Record;
+use record::answer::{number_in, record_in};
 
 // A record as its numbers.
 #[repr(C)]
@@ -24,17 +25,14 @@ pub struct AddedNumbers {
 fn record_given(given: RecordNumbers) -> Record
     ensures { result ≡ record_given given.numbers }
 {
-    let numbers = given.numbers;
-    let reading = flat_record::record_of(&numbers);
-    reading.record()
+    record_in(flat_record::record_of(&given.numbers))
 }
 
 fn added_numbers(added: Added) -> AddedNumbers
     ensures { result ≡ added_numbers added }
 {
-    let outcome = added.outcome;
     AddedNumbers {
-        answer: outcome.number(),
+        answer: number_in(added.outcome),
         used: added.used,
     }
 }

@@ -3,7 +3,7 @@ ghost use Rattle.std.specs.Prelude.{◌≡◌};
 ghost use Rattle.listener.specs.Listening.{answer_of};
 ghost use Rattle.lindenscoop.specs.Run.{RanAs, ended, is_answer, joined};
 
-use listener::{Heard, Listener, Passing};
+use listener::{Heard, Listener};
 use serial::LONGEST;
 
 // The state, how many bytes were fed, and the answer to the last one.
@@ -27,11 +27,7 @@ fn ended(listener: Listener, used: usize, heard: Heard) -> Ran
 fn is_answer(heard: Heard) -> bool
     ensures { result ≡ is_answer (answer_of heard) }
 {
-    match heard {
-        Heard::Handed(_) => true,
-        Heard::Nothing => false,
-        Heard::Refused(_) => true,
-    }
+    !matches!(heard, Ok(None))
 }
 
 fn joined(bytes: [u8; LONGEST], at: usize, kept: usize, distance: usize, form: u32) -> Listener
@@ -60,26 +56,22 @@ pub(crate) fn feed_until(start: Listener, s: &[u8]) -> Ran
     while i < s.len() {
         let b = s[i];
         i += 1;
-        match listener::passing_of(shape, at, kept, distance, b) {
-            Passing::Passed(place, next_at, next_kept, next_distance) => {
-                bytes[place] = b;
-                at = next_at;
-                kept = next_kept;
-                distance = next_distance;
-                continue;
-            }
-            Passing::Other => {}
+        if let Some(moved) = listener::passing_of(shape, at, kept, distance, b) {
+            bytes[moved.place] = b;
+            at = moved.at;
+            kept = moved.kept;
+            distance = moved.distance;
+            continue;
         }
         let fed = joined(bytes, at, kept, distance, form).feed_end(b);
-        let heard = fed.heard;
         let next = fed.next;
-        if is_answer(heard) {
-            return ended(next, i, heard);
+        if is_answer(fed.heard) {
+            return ended(next, i, fed.heard);
         }
         bytes = next.bytes;
         at = next.at;
         kept = next.kept;
         distance = next.distance;
     }
-    ended(joined(bytes, at, kept, distance, form), i, Heard::Nothing)
+    ended(joined(bytes, at, kept, distance, form), i, Ok(None))
 }

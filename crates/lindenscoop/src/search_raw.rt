@@ -3,9 +3,8 @@ ghost use Rattle.lindenscoop.specs.Search.{SearchedAs};
 
 use crate::buffers::{TOO_SHORT, record_fits};
 use record::Record;
-use search::Finding;
 
-// The first valid string at or after the start, its place and its record.
+/// The first valid string at or after the start, its place and its record.
 pub fn lindenscoop_search_numbers(
     form: u32,
     bytes: &[u8],
@@ -21,15 +20,15 @@ pub fn lindenscoop_search_numbers(
     }
     // One match, so that no part of the answer is copied before it is stored.
     match search::search(form, bytes, start) {
-        Finding::Found { at, record } => {
-            *place = at;
-            flat_record::put_record(record, numbers);
+        Ok(found) => {
+            *place = found.at;
+            let _ = flat_record::put_record(found.told, numbers);
             0
         }
-        Finding::Refused(x) => {
+        Err(refusal) => {
             *place = 0;
-            flat_record::put_record(Record::empty(), numbers);
-            x.number()
+            let _ = flat_record::put_record(Record::empty(), numbers);
+            u32::from(refusal)
         }
     }
 }

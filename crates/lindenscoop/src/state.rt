@@ -4,7 +4,7 @@ ghost use Rattle.std.specs.Prelude.{◌≡◌, [], ◌∷◌, ◌++◌, ◌≤�
 ghost use Rattle.spelling.specs.Stored.{stored};
 ghost use Rattle.lindenscoop.specs.State.{Small, Storable, form_in, listener_of, numbered, passing_in, ring_size, state_bytes, state_size};
 
-use listener::{Listener, Passing};
+use listener::{Listener, Moved};
 
 // Where each part begins.
 const AT: usize = 66;
@@ -24,13 +24,9 @@ fn ring_of(s: &[u8]) -> [u8; AT]
     requires { state_size ≤ length s.now }
     ensures { result ≡ take ring_size s.now }
 {
-    let mut y = [0u8; AT];
-    let mut i = 0;
-    while i < AT {
-        y[i] = s[i];
-        i += 1;
-    }
-    y
+    let mut ring = [0; AT];
+    ring.copy_from_slice(&s[..AT]);
+    ring
 }
 
 fn wide(x: u8) -> usize
@@ -69,8 +65,7 @@ pub(crate) fn listener_of(s: &[u8]) -> Listener
 fn ring_in(l: Listener) -> [u8; AT]
     ensures { (result ≡ l.bytes) × (length result ≡ ring_size) }
 {
-    let ring = l.bytes;
-    ring
+    l.bytes
 }
 
 // Stores the numbers behind the ring.
@@ -94,7 +89,7 @@ pub(crate) fn put_state(l: Listener, out: &mut [u8])
 }
 
 // What a byte that ends no string leaves of the listener that stands in the bytes.
-pub(crate) fn passing_in(s: &[u8], b: u8) -> Passing
+pub(crate) fn passing_in(s: &[u8], b: u8) -> Option<Moved>
     requires { state_size ≤ length s.now }
     ensures { result ≡ passing_in s.now b }
 {
@@ -103,11 +98,11 @@ pub(crate) fn passing_in(s: &[u8], b: u8) -> Passing
 }
 
 // Stores such a byte and what it leaves where the state stands.
-pub(crate) fn move_on(s: &mut [u8], place: usize, at: usize, kept: usize, distance: usize, b: u8)
-    requires { (state_size ≤ length s.old) × Small at kept distance (form_in s.old) }
-    ensures { s.new ≡ numbered at kept distance (form_in s.old) (stored s.old place (b ∷ [])) }
+pub(crate) fn move_on(s: &mut [u8], moved: Moved, b: u8)
+    requires { (state_size ≤ length s.old) × Small moved.at moved.kept moved.distance (form_in s.old) }
+    ensures { s.new ≡ numbered moved.at moved.kept moved.distance (form_in s.old) (stored s.old moved.place (b ∷ [])) }
 {
     let form = form_in(s);
-    spelling::put_byte(s, place, b);
-    put_numbers(s, at, kept, distance, form);
+    spelling::put_byte(s, moved.place, b);
+    put_numbers(s, moved.at, moved.kept, moved.distance, form);
 }

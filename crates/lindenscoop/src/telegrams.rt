@@ -3,27 +3,26 @@ ghost use Rattle.lindenscoop.specs.Telegrams.{ReadAs, WrittenAs, WroteNumbers};
 
 use crate::buffers::{TOO_SHORT, record_fits};
 use record::Record;
-use record::answer::{Reading, Writing};
+use record::answer::{length_in, number_in};
 use record::refusal::Refusal;
 
 // An unknown form is refused before numbers that are no record.
-fn write_numbers(form: u32, numbers: &[u32], out: &mut [u8]) -> Writing
+fn write_numbers(form: u32, numbers: &[u32], out: &mut [u8]) -> Result<usize, Refusal>
     ensures { WroteNumbers form numbers.now result out.old out.new }
 {
-    let reading = flat_record::record_of(numbers);
-    match reading {
-        Reading::Read(r) => codec::write(form, r, out),
-        Reading::Refused(x) => {
+    match flat_record::record_of(numbers) {
+        Ok(r) => codec::write(form, r, out),
+        Err(x) => {
             if codec::is_form(form) {
-                Writing::Refused(x)
+                Err(x)
             } else {
-                Writing::Refused(Refusal::UnknownForm)
+                Err(Refusal::UnknownForm)
             }
         }
     }
 }
 
-// The record of a string.
+/// The record of a string.
 pub fn lindenscoop_read_numbers(form: u32, input: &[u8], numbers: &mut [u32]) -> u32
     ensures { ReadAs form input.now numbers.old result numbers.new }
 {
@@ -32,18 +31,18 @@ pub fn lindenscoop_read_numbers(form: u32, input: &[u8], numbers: &mut [u32]) ->
     }
     // One match, as in search_raw.rt.
     match codec::read(form, input) {
-        Reading::Read(r) => {
-            flat_record::put_record(r, numbers);
+        Ok(r) => {
+            let _ = flat_record::put_record(r, numbers);
             0
         }
-        Reading::Refused(x) => {
-            flat_record::put_record(Record::empty(), numbers);
-            x.number()
+        Err(refusal) => {
+            let _ = flat_record::put_record(Record::empty(), numbers);
+            u32::from(refusal)
         }
     }
 }
 
-// The string of the record at the head of the numbers.
+/// The string of the record at the head of the numbers.
 pub fn lindenscoop_write_numbers(
     form: u32,
     numbers: &[u32],
@@ -57,6 +56,6 @@ pub fn lindenscoop_write_numbers(
         return TOO_SHORT;
     }
     let writing = write_numbers(form, &numbers[0..flat_record::SIZE], out);
-    *written = writing.length();
-    writing.number()
+    *written = length_in(writing);
+    number_in(writing)
 }

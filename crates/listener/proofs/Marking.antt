@@ -1,7 +1,7 @@
 -- The marks still to be stored make of the marks as they are what the marks of all bytes make of those at entry.
+use Rattle.std.specs.Prelude.{Ok, Err}
 use Rattle.cond.proofs.Kit.{[], ◌+◌, ◌<◌, ◌∙◌, ◌∷◌, ◌≡◌, ◌≤◌, add-one, ap, arith, drop, drop-cons, drop_of_length-le, false, get_or, le-leb, length, List, lt-leb, refl, set, sets, sets-eq, suc, true, ℕ}
 use Rattle.record.specs.declared.Record.{Record}
-use Rattle.record.specs.declared.answer.Writing.TheVariants as writing
 use Rattle.record.specs.declared.refusal.Refusal.TheVariants as refusal
 use Rattle.forms.specs.Forms.{is_serial}
 use Rattle.forms.specs.Valid.{length_of, valid_of}
@@ -35,17 +35,17 @@ marks_length [] = refl
 marks_length (a ∷ list) = ap suc (marks_length list)
 
 module _ (form : ℕ) (s before : List ℕ) where
-  pub no_form : is_serial form ≡ false → Marked form s (writing.Refused refusal.UnknownForm) before before
+  pub no_form : is_serial form ≡ false → Marked form s (Err refusal.UnknownForm) before before
   unfolding mark_answer
   no_form e = record { answer = rw e; left = refl }
 
   module _ (known : is_serial form ≡ true) where
-    pub no_room : length before < length s → Marked form s (writing.Refused refusal.ShortBuffer) before before
+    pub no_room : length before < length s → Marked form s (Err refusal.ShortBuffer) before before
     unfolding mark_answer
     no_room h = record { answer = rw (known, lt-leb (length s) (length before) h); left = refl }
 
     pub all_marked : (after : List ℕ) → length s ≤ length before → after ≡ sets before 0 (marks_of (hears form s))
-        → Marked form s (writing.Written (length s)) before after
+        → Marked form s (Ok (length s)) before after
     unfolding mark_answer heard_all
     all_marked after h e =
         let marks = marks_of (heard_all (length_of form) (valid_of form) s) in

@@ -1,10 +1,11 @@
 -- A listener starts fresh for a serial form; for any other the start is refused with 1.
+use Rattle.record.specs.Answers.{number_in}
 use Rattle.cond.proofs.Kit.{◌≡◌, arith, Bool, false, refl, true, ℕ}
 use Rattle.cond.specs.Pick.{pick}
 use Rattle.cond.proofs.Tests.{either_way}
 use Rattle.forms.specs.Forms.{is_serial}
 use Rattle.forms.specs.Valid.{length_of}
-use Rattle.listener.specs.Listening.{silent, start_number, started_of}
+use Rattle.listener.specs.Listening.{silent, started_of}
 use Rattle.listener.specs.declared.Listener.{Listener}
 use Rattle.listener.specs.declared.Started.{Started}
 
@@ -23,13 +24,13 @@ module _ (form : ℕ) where
   unfolding started_of
   fresh_is e = rw e
 
-  pub start_known : is_serial form ≡ true → start_number (started_of form).answer ≡ 0
+  pub start_known : is_serial form ≡ true → number_in (started_of form).answer ≡ 0
   unfolding started_of
   start_known e = rw e
 
-  pub start_unknown : is_serial form ≡ false → start_number (started_of form).answer ≡ 1
+  pub start_unknown : is_serial form ≡ false → number_in (started_of form).answer ≡ 1
   unfolding started_of
   start_unknown e = rw e
 
-  pub refused_form : start_number (started_of form).answer ≡ 1 → is_serial form ≡ false
+  pub refused_form : number_in (started_of form).answer ≡ 1 → is_serial form ≡ false
   refused_form h = either_way (is_serial form) (λ e. let k = start_known e in absurd (omega arith)) (λ e. e)

@@ -1,9 +1,11 @@
 -- A state of the ring is a state of the stream: a byte stored in the ring moves it on as the step over the kept bytes does.
-use Rattle.cond.proofs.Kit.{[], ◌++◌, ◌+◌, ◌-◌, ◌<◌, ◌||◌, ◌∙◌, ◌∷◌, ◌≡◌, ◌≤◌, ap, arith, Bool, drop, drop-append-le, drop-drop, eq-eqb, eqb, eqb-false, eqb-true, false, false≢true, get_or, get_or_at, get_or-drop, le-leb, le-ltb, leb-true, length, length-append, length-drop, length-set, List, lt-leb, lt-ltb, ltb, ltb-true, min, none, not, refl, set, subst, sym, true, ℕ}
+use Rattle.listener.specs.declared.passing.Moved.{Moved}
+use Rattle.std.specs.Prelude.{None, Result, Err, Option, Ok, Some}
+use Rattle.record.specs.declared.Record.{Record}
+use Rattle.record.specs.declared.refusal.Refusal.{Refusal}
+use Rattle.cond.proofs.Kit.{[], ◌++◌, ◌+◌, ◌-◌, ◌<◌, ◌||◌, ◌∙◌, ◌∷◌, ◌≡◌, ◌≤◌, ap, arith, Bool, drop, drop-append-le, drop-drop, eq-eqb, eqb, eqb-false, eqb-true, false, false≢true, get_or, get_or_at, get_or-drop, le-leb, le-ltb, leb-true, length, length-append, length-drop, length-set, List, lt-leb, lt-ltb, ltb, ltb-true, min, not, refl, set, subst, sym, true, ℕ}
 use Rattle.cond.proofs.Tests.{both, either_way}
 use Rattle.cond.specs.Pick.{pick}
-use Rattle.record.specs.declared.answer.Reading.{Reading}
-use Rattle.record.specs.declared.answer.Reading.TheVariants as reading
 use Rattle.record.specs.declared.refusal.Refusal.TheVariants as refusal
 use Rattle.forms.specs.Forms.{is_serial}
 use Rattle.forms.specs.Valid.{length_of, record_in, valid_of}
@@ -17,11 +19,7 @@ use Rattle.listener.specs.Listening.{FedBy, answer_by, answer_of, answer_to, is_
 use Rattle.listener.specs.Passing.{passes, passing_of}
 use Rattle.listener.specs.Ring.{oldest_first, place_of, wrapped}
 use Rattle.listener.specs.declared.Fed.{Fed}
-use Rattle.listener.specs.declared.Heard.{Heard}
-use Rattle.listener.specs.declared.Heard.TheVariants as heard
 use Rattle.listener.specs.declared.Listener.{Listener}
-use Rattle.listener.specs.declared.passing.Passing.{Passing}
-use Rattle.listener.specs.declared.passing.Passing.TheVariants as passing
 use Rattle.listener.proofs.Rings.{place_small, ring_length, ring_set, wrapped_small}
 use Rattle.listener.proofs.Starts.{pick_has}
 use Rattle.listener.proofs.Windows.{other_end}
@@ -84,7 +82,7 @@ module _ (l : Listener) (b n : ℕ) (sized : length l.bytes ≡ longest) (small 
   last_longer m = rw (length-append, kept_length, longer, drop-drop)
 
   pub hit_ring : (f : ℕ)
-      → pick (eqb (l.kept + 1) n) (valid_of f (last_of n next)) none
+      → pick (eqb (l.kept + 1) n) (valid_of f (last_of n next)) None
       ≡ hit n (valid_of f) (state_of l).kept b
   unfolding hit
   hit_ring f =
@@ -113,7 +111,7 @@ newest_byte x place b y up h ey long eu =
 -- what `feed` answers and leaves
 
 module _ (l : Listener) (b n : ℕ) (is : n ≡ length_of l.form) where
-  pub refused_state : is_bad n l ≡ true → FedBy l b (record { next = l; heard = heard.Refused refusal.BadState })
+  pub refused_state : is_bad n l ≡ true → FedBy l b (record { next = l; heard = Err refusal.BadState })
   unfolding next_of next_by answer_to answer_by
   refused_state h = record { next = rw (← is, h); answer = rw (← is, h) }
 
@@ -127,9 +125,9 @@ module _ (l : Listener) (b n : ℕ) (is : n ≡ length_of l.form) where
     next_is = rw (← is, not_bad n l is small near)
 
     pub moves_on :
-        (place up kept distance : ℕ) (y : List ℕ) (reading : Reading) (answer : Heard)
+        (place up kept distance : ℕ) (y : List ℕ) (reading : Result Record Refusal) (answer : Result (Option Record) Refusal)
         → place ≡ place_of l.at → y ≡ set l.bytes place b → up ≡ wrapped (place + 1)
-        → record_in reading ≡ pick (eqb (l.kept + 1) n) (valid_of l.form (last_of n (oldest_first up y))) none
+        → record_in reading ≡ pick (eqb (l.kept + 1) n) (valid_of l.form (last_of n (oldest_first up y))) None
         → answer_of answer ≡ unless_overlap n l.distance (record_in reading) → kept ≡ min (l.kept + 1) (n - 1)
         → distance ≡ distance_after n l.distance (answer_of answer)
         → FedBy l b (record { next = record { bytes = y; at = up; kept = kept; distance = distance; form = l.form }; heard = answer })
@@ -165,7 +163,7 @@ module _ (l : Listener) (b : ℕ) (sized : length l.bytes ≡ longest) where
       stored (place_of l.at) (wrapped (place_of l.at + 1)) (min (l.kept + 1) ((shape_of l.form).length - 1))
       (min (shape_of l.form).length (l.distance + 1))
 
-  pub plain : passes (shape_of l.form) l.kept l.distance b ≡ true → FedBy l b (record { next = left; heard = heard.Nothing })
+  pub plain : passes (shape_of l.form) l.kept l.distance b ≡ true → FedBy l b (record { next = left; heard = Ok None })
   plain h =
       let (k, t) = both _ _ h in
       let (d, e) = both _ _ t in
@@ -176,14 +174,14 @@ module _ (l : Listener) (b : ℕ) (sized : length l.bytes ≡ longest) where
       let long : length left.bytes ≡ longest = length-set l.bytes _ b ∙ sized in
       let newest = newest_byte l.bytes _ b _ _ low refl long refl in
       let none_ends = other_end l.form left.bytes _ _ up long (omega arith) most (eqb (l.kept + 1) _) b newest (λ q. false≢true (ap not (sym (eq-eqb b _ q)) ∙ e)) in
-      moves_on l b _ refl small (leb-true _ _ d) most sized _ _ _ _ _ (reading.Refused refusal.WrongByte) heard.Nothing refl refl refl none_ends refl refl refl
+      moves_on l b _ refl small (leb-true _ _ d) most sized _ _ _ _ _ (Err refusal.WrongByte) (Ok None) refl refl refl none_ends refl refl refl
 
   -- what is known of an answer of `passing_of`
-  abbrev pub Leaves : Passing → Type 0
-  Leaves (passing.Passed place at kept distance) = (place < longest) × FedBy l b (record { next = stored place at kept distance; heard = heard.Nothing })
-  Leaves passing.Other = Unit {0}
+  abbrev pub Leaves : Option Moved → Type 0
+  Leaves (Some m) = (m.place < longest) × FedBy l b (record { next = stored m.place m.at m.kept m.distance; heard = Ok None })
+  Leaves None = Unit {0}
 
-  pub passed : {shape : Shape} {r p : Passing} → shape ≡ shape_of l.form → r ≡ passing_of shape l.at l.kept l.distance b → r ≡ p → Leaves p
+  pub passed : {shape : Shape} {r p : Option Moved} → shape ≡ shape_of l.form → r ≡ passing_of shape l.at l.kept l.distance b → r ≡ p → Leaves p
   unfolding passing_of
   passed es er ep =
       subst Leaves (rw es at (sym er ∙ ep))

@@ -1,4 +1,5 @@
 -- Demand 3, "one claim about the whole list of bytes", for every form and every list.
+use Rattle.record.specs.Answers.{number_in}
 use Rattle.std.specs.Prelude.{true, false, List, ◌≡◌, ℕ, ◌-◌, ◌≤◌, ◌<◌, length}
 use Rattle.forms.specs.Forms.{is_serial}
 use Rattle.forms.specs.Valid.{length_of, valid_of}
@@ -6,7 +7,7 @@ use Rattle.stream.specs.Answer.{answer_at, refused}
 use Rattle.stream.specs.Distance.{Since}
 use Rattle.stream.specs.Listens.{Listens}
 use Rattle.stream.specs.Window.{last_of}
-use Rattle.listener.specs.Listening.{hears, listener_after, start_number, started_of, state_of}
+use Rattle.listener.specs.Listening.{hears, listener_after, started_of, state_of}
 
 pub record Demand3 : Type 0 where
   -- "For every serial form and every list of bytes": what `Listens` says of all that a new listener answers
@@ -17,10 +18,10 @@ pub record Demand3 : Type 0 where
   pub distance :
       (form : ℕ) → is_serial form ≡ true → (s : List ℕ) → Since (length_of form) (valid_of form) s (state_of (listener_after form s)).distance
   -- such a start is not refused
-  pub started : (form : ℕ) → is_serial form ≡ true → start_number (started_of form).answer ≡ 0
+  pub started : (form : ℕ) → is_serial form ≡ true → number_in (started_of form).answer ≡ 0
   -- "A new listener for a wrong form answers 1"
-  pub not_started : (form : ℕ) → is_serial form ≡ false → start_number (started_of form).answer ≡ 1
+  pub not_started : (form : ℕ) → is_serial form ≡ false → number_in (started_of form).answer ≡ 1
   -- "After a start refused with 1, every byte is answered 11."
   pub after_refusal :
-      (form : ℕ) → start_number (started_of form).answer ≡ 1 → (s : List ℕ) (k : ℕ) → 0 < k → k ≤ length s
+      (form : ℕ) → number_in (started_of form).answer ≡ 1 → (s : List ℕ) (k : ℕ) → 0 < k → k ≤ length s
       → answer_at (hears form s) k ≡ refused 11

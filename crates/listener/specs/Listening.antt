@@ -1,5 +1,7 @@
 -- What a new listener is, and what a byte does to one, on every state.
-use Rattle.std.specs.Prelude.{Bool, not, ◌||◌, List, ◌≡◌, ℕ, ◌+◌, ◌-◌, min, ltb, replicate, set}
+use Rattle.record.specs.declared.refusal.Refusal.{Refusal}
+use Rattle.record.specs.Answers.{number_in}
+use Rattle.std.specs.Prelude.{Bool, not, ◌||◌, List, ◌≡◌, ℕ, ◌+◌, ◌-◌, min, ltb, replicate, set, None, Some, Ok, Err, Option, Result}
 use Rattle.cond.specs.Pick.{pick}
 use Rattle.record.specs.declared.Record.{Record}
 use Rattle.record.specs.declared.refusal.Refusal.TheVariants as refusal
@@ -13,18 +15,14 @@ use Rattle.stream.specs.Window.{last_of}
 use Rattle.serial.specs.Shape.{longest}
 use Rattle.listener.specs.Ring.{oldest_first, place_of, wrapped}
 use Rattle.listener.specs.declared.Fed.{Fed}
-use Rattle.listener.specs.declared.Heard.{Heard}
-use Rattle.listener.specs.declared.Heard.TheVariants as heard
 use Rattle.listener.specs.declared.Listener.{Listener}
 use Rattle.listener.specs.declared.Started.{Started}
-use Rattle.listener.specs.declared.Starting.{Starting}
-use Rattle.listener.specs.declared.Starting.TheVariants as starting
 
 -- the paper's number and values for each answer to a byte
-abbrev pub answer_of : Heard → Answer Record
-answer_of (heard.Handed r) = handed r
-answer_of heard.Nothing = nothing
-answer_of (heard.Refused x) = refused (number_of x)
+abbrev pub answer_of : Result (Option Record) Refusal → Answer Record
+answer_of (Ok (Some r)) = handed r
+answer_of (Ok None) = nothing
+answer_of (Err x) = refused (number_of x)
 
 -- "A state holds the form, up to n-1 last bytes, and the distance since the last record": these are the last of the ring
 unfoldable pub state_of : Listener → State
@@ -72,13 +70,8 @@ silent form distance = record { bytes = replicate longest 0; at = 0; kept = 0; d
 -- "fresh means no bytes and distance n"; "A new listener for a wrong form answers 1 and a state of form 0 with no bytes and distance 0."
 unfoldable pub started_of : ℕ → Started
 started_of form =
-    pick (is_serial form) (record { listener = silent form (length_of form); answer = starting.Fresh })
-    (record { listener = silent 0 0; answer = starting.Refused refusal.UnknownForm })
-
--- the paper's number of a start, 0 for none
-abbrev pub start_number : Starting → ℕ
-start_number starting.Fresh = 0
-start_number (starting.Refused x) = number_of x
+    pick (is_serial form) (record { listener = silent form (length_of form); answer = Ok tt })
+    (record { listener = silent 0 0; answer = Err refusal.UnknownForm })
 
 -- "start a listener afresh for that form and feed it the list byte by byte, each to the state that the byte before it left"
 unfoldable pub hears : ℕ → List ℕ → List (Answer Record)

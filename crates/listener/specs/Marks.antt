@@ -1,9 +1,8 @@
 -- A listener run over a whole list of bytes: which of them hand out a record.
-use Rattle.std.specs.Prelude.{List, [], ◌∷◌, ◌≡◌, ℕ, leb, length}
+use Rattle.record.specs.declared.refusal.Refusal.{Refusal}
+use Rattle.std.specs.Prelude.{List, [], ◌∷◌, ◌≡◌, ℕ, leb, length, Result, Ok, Err}
 use Rattle.cond.specs.Pick.{pick}
 use Rattle.record.specs.declared.Record.{Record}
-use Rattle.record.specs.declared.answer.Writing.{Writing}
-use Rattle.record.specs.declared.answer.Writing.TheVariants as writing
 use Rattle.record.specs.declared.refusal.Refusal.TheVariants as refusal
 use Rattle.forms.specs.Form.{left_of}
 use Rattle.forms.specs.Forms.{is_serial}
@@ -29,12 +28,12 @@ abbrev pub marks_from : Listener → List ℕ → List ℕ
 marks_from l s = marks_of (answers next_of answer_to l s)
 
 -- refusal 1, then 10; else a mark for each byte
-unfoldable pub mark_answer : ℕ → ℕ → ℕ → Writing
+unfoldable pub mark_answer : ℕ → ℕ → ℕ → Result ℕ Refusal
 mark_answer form bytes room =
-    pick (is_serial form) (pick (leb bytes room) (writing.Written bytes) (writing.Refused refusal.ShortBuffer)) (writing.Refused refusal.UnknownForm)
+    pick (is_serial form) (pick (leb bytes room) (Ok bytes) (Err refusal.ShortBuffer)) (Err refusal.UnknownForm)
 
 -- what the contract says: "Byte k .. hands out the record of bytes k-n+1 to k if k is at least n and they are a valid string, else nothing;
 -- neither 11 nor 13 occurs.", for every byte of the list
-pub record Marked (form : ℕ) (s : List ℕ) (w : Writing) (before after : List ℕ) : Type 0 where
+pub record Marked (form : ℕ) (s : List ℕ) (w : Result ℕ Refusal) (before after : List ℕ) : Type 0 where
   pub answer : w ≡ mark_answer form (length s) (length before)
   pub left : after ≡ left_of w (marks_of (heard_all (length_of form) (valid_of form) s)) before

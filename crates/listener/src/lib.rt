@@ -1,18 +1,16 @@
-// A listener for a stream of the strings of one serial form.
+//! A listener for a stream of the strings of one serial form.
 #![tactic(auto)]
 
 ghost use Rattle.std.specs.Prelude.{◌≡◌, eqb, ◌+◌, ◌-◌, ◌≤◌, ◌<◌, min};
-ghost use Rattle.std.proofs.Math.Option.{none};
 ghost use Rattle.cond.specs.Pick.{pick};
 ghost use Rattle.forms.specs.Valid.{record_in, valid_of};
 ghost use Rattle.serial.specs.Shape.{longest};
 ghost use Rattle.stream.specs.Distance.{distance_after, unless_overlap};
 ghost use Rattle.stream.specs.Window.{last_of};
 ghost use Rattle.listener.specs.Ring.{Completing, oldest_first};
-ghost use Rattle.listener.specs.Listening.{FedBy, answer_of, start_number, started_of};
+ghost use Rattle.listener.specs.Listening.{FedBy, answer_of, started_of};
 
 use record::Record;
-use record::answer::Reading;
 use record::refusal::Refusal;
 use serial::{LONGEST, Shape};
 
@@ -21,10 +19,11 @@ mod passing;
 mod ring;
 
 pub use marks::mark;
-pub use passing::{Passing, passing_of};
+pub use passing::{Moved, passing_of};
 
-// The last bytes fed stand in a ring, the last `kept` of them count, and the next one goes to place `at`.
-#[derive(Clone, Copy)]
+/// The last bytes fed stand in a ring, the last `kept` of them count, and the next one goes to place `at`; `distance` is that since the last
+/// record, and `form` the form's number. Any state may be handed in.
+#[derive(Clone, Copy, Debug, PartialEq, Eq)]
 pub struct Listener {
     pub bytes: [u8; LONGEST],
     pub at: usize,
@@ -33,47 +32,26 @@ pub struct Listener {
     pub form: u32,
 }
 
-#[derive(Clone, Copy)]
-pub enum Heard {
-    Handed(Record),
-    Nothing,
-    Refused(Refusal),
-}
+/// The answer to a byte: the record of a string that it completes, or nothing. Refusal 13 where the string overlaps the last one handed out, 11
+/// for a state that no byte leaves.
+pub type Heard = Result<Option<Record>, Refusal>;
 
-// The answer to a byte, beside the next state.
-#[derive(Clone, Copy)]
+/// The answer to a byte, beside the next state.
+#[derive(Clone, Copy, Debug, PartialEq, Eq)]
 pub struct Fed {
     pub next: Listener,
     pub heard: Heard,
 }
 
-#[derive(Clone, Copy)]
-pub enum Starting {
-    Fresh,
-    Refused(Refusal),
-}
-
-// A new listener, beside the answer to its start.
-#[derive(Clone, Copy)]
+/// A new listener, beside the answer to its start.
+#[derive(Clone, Copy, Debug, PartialEq, Eq)]
 pub struct Started {
     pub listener: Listener,
-    pub answer: Starting,
-}
-
-impl Starting {
-    // The number of the refusal, 0 for none.
-    pub fn number(self) -> u32
-        ensures { result ≡ start_number self }
-    {
-        match self {
-            Starting::Fresh => 0,
-            Starting::Refused(x) => x.number(),
-        }
-    }
+    pub answer: Result<(), Refusal>,
 }
 
 // The last n bytes of a ring, read.
-fn newest(form: u32, y: [u8; LONGEST], at: usize, n: usize) -> Reading
+fn newest(form: u32, y: [u8; LONGEST], at: usize, n: usize) -> Result<Record, Refusal>
     requires { (at < longest) × ((0 < n) × (n ≤ longest)) }
     ensures { record_in result ≡ valid_of form (last_of n (oldest_first at y)) }
 {
@@ -88,38 +66,40 @@ fn newest(form: u32, y: [u8; LONGEST], at: usize, n: usize) -> Reading
 }
 
 // The string that byte b completes. The byte itself, the count and the first byte are tested before the reader runs.
-fn completed(form: u32, shape: Shape, y: [u8; LONGEST], at: usize, kept: usize, b: u8) -> Reading
+fn completed(
+    form: u32,
+    shape: Shape,
+    y: [u8; LONGEST],
+    at: usize,
+    kept: usize,
+    b: u8,
+) -> Result<Record, Refusal>
     requires { Completing form shape at y kept b }
-    ensures { record_in result ≡ pick (eqb (kept + 1) shape.length) (valid_of form (last_of shape.length (oldest_first at y))) none }
+    ensures { record_in result ≡ pick (eqb (kept + 1) shape.length) (valid_of form (last_of shape.length (oldest_first at y))) None }
 {
     let n = shape.length;
     if b != shape.end {
-        return Reading::Refused(Refusal::WrongByte);
+        return Err(Refusal::WrongByte);
     }
     if kept + 1 != n {
-        return Reading::Refused(Refusal::WrongLength);
+        return Err(Refusal::WrongLength);
     }
     let first = ring::wrap(at + (LONGEST - n));
     if y[first] != shape.start {
-        return Reading::Refused(Refusal::WrongByte);
+        return Err(Refusal::WrongByte);
     }
     newest(form, y, at, n)
 }
 
 // The record of a string that was completed, if it ends n bytes or more behind the last one handed out.
-fn emitted(reading: Reading, distance: usize, n: usize) -> Heard
+fn emitted(reading: Result<Record, Refusal>, distance: usize, n: usize) -> Heard
     requires { (distance ≤ n) × (n ≤ longest) }
     ensures { answer_of result ≡ unless_overlap n distance (record_in reading) }
 {
     match reading {
-        Reading::Read(r) => {
-            if distance + 1 < n {
-                Heard::Refused(Refusal::Overlap)
-            } else {
-                Heard::Handed(r)
-            }
-        }
-        Reading::Refused(_) => Heard::Nothing,
+        Ok(_) if distance + 1 < n => Err(Refusal::Overlap),
+        Ok(told) => Ok(Some(told)),
+        Err(_) => Ok(None),
     }
 }
 
@@ -134,9 +114,8 @@ fn distance_after(answer: Heard, distance: usize, n: usize) -> usize
     ensures { result ≡ distance_after n distance (answer_of answer) }
 {
     match answer {
-        Heard::Handed(_) => 0,
-        Heard::Nothing => one_more(distance, n),
-        Heard::Refused(_) => one_more(distance, n),
+        Ok(Some(_)) => 0,
+        Ok(None) | Err(_) => one_more(distance, n),
     }
 }
 
@@ -148,6 +127,7 @@ fn buffered_after(kept: usize, n: usize) -> usize
 }
 
 impl Listener {
+    /// With no bytes kept. Refusal 1 where the form is no serial one; the listener is then of form 0.
     pub fn new(form: u32) -> Started
         ensures { result ≡ started_of form }
     {
@@ -161,7 +141,7 @@ impl Listener {
                     distance: 0,
                     form: 0,
                 },
-                answer: Starting::Refused(Refusal::UnknownForm),
+                answer: Err(Refusal::UnknownForm),
             };
         }
         Started {
@@ -172,67 +152,61 @@ impl Listener {
                 distance: n,
                 form,
             },
-            answer: Starting::Fresh,
+            answer: Ok(()),
         }
     }
 
+    /// One byte. A state that no byte leaves comes back unchanged, with refusal 11.
     // A byte that ends no string is dismissed before the ring is handed on.
     pub fn feed(self, b: u8) -> Fed
         ensures { FedBy self b result }
     {
         let shape = serial::shape_of(self.form);
         match passing_of(shape, self.at, self.kept, self.distance, b) {
-            Passing::Passed(place, at, kept, distance) => {
-                let before = self.bytes;
-                Fed {
-                    next: Listener {
-                        bytes: ring::with_byte(before, place, b),
-                        at,
-                        kept,
-                        distance,
-                        form: self.form,
-                    },
-                    heard: Heard::Nothing,
-                }
-            }
-            Passing::Other => self.feed_end(b),
+            Some(moved) => Fed {
+                next: Listener {
+                    bytes: ring::with_byte(self.bytes, moved.place, b),
+                    at: moved.at,
+                    kept: moved.kept,
+                    distance: moved.distance,
+                    form: self.form,
+                },
+                heard: Ok(None),
+            },
+            None => self.feed_end(b),
         }
     }
 
-    // The same for who has dismissed such bytes: what stores them in place need not ask again.
+    /// The same for who has dismissed bytes that end no string: what stores them in place need not ask again.
     pub fn feed_end(self, b: u8) -> Fed
         ensures { FedBy self b result }
     {
-        let form = self.form;
-        let shape = serial::shape_of(form);
+        let shape = serial::shape_of(self.form);
         let n = shape.length;
-        let kept = self.kept;
-        let distance = self.distance;
-        if n <= kept {
+        if n <= self.kept {
             return Fed {
                 next: self,
-                heard: Heard::Refused(Refusal::BadState),
+                heard: Err(Refusal::BadState),
             };
         }
-        if n < distance {
+        if n < self.distance {
             return Fed {
                 next: self,
-                heard: Heard::Refused(Refusal::BadState),
+                heard: Err(Refusal::BadState),
             };
         }
         let place = ring::place(self.at);
-        let before = self.bytes;
-        let bytes = ring::with_byte(before, place, b);
+        let bytes = ring::with_byte(self.bytes, place, b);
         let at = ring::wrap(place + 1);
-        let reading = completed(form, shape, bytes, at, kept, b);
-        let answer = emitted(reading, distance, n);
+        let reading = completed(self.form, shape, bytes, at, self.kept, b);
+        let answer = emitted(reading, self.distance, n);
         Fed {
             next: Listener {
                 bytes,
                 at,
-                kept: buffered_after(kept, n),
-                distance: distance_after(answer, distance, n),
-                form,
+                kept: buffered_after(self.kept, n),
+                distance: distance_after(answer, self.distance, n),
+                form: self.form,
             },
             heard: answer,
         }

@@ -4,17 +4,16 @@ ghost use Rattle.listener.specs.Listening.{answer_of};
 ghost use Rattle.std.proofs.lemmas.List.Edits.{sets};
 ghost use Rattle.listener.specs.Marks.{Marked, mark_of, marks_from};
 
-use crate::{Heard, Listener, Passing, passing_of};
-use record::answer::Writing;
+use crate::{Heard, Listener, passing_of};
 use record::refusal::Refusal;
 
 fn mark_of(heard: Heard) -> u8
     ensures { result ≡ mark_of (answer_of heard) }
 {
     match heard {
-        Heard::Handed(_) => 1,
-        Heard::Nothing => 0,
-        Heard::Refused(_) => 2,
+        Ok(Some(_)) => 1,
+        Ok(None) => 0,
+        Err(_) => 2,
     }
 }
 
@@ -32,17 +31,14 @@ fn mark_each(l: Listener, s: &[u8], marks: &mut [u8])
     let mut i = 0;
     while i < s.len() {
         let b = s[i];
-        match passing_of(shape, at, kept, distance, b) {
-            Passing::Passed(place, next_at, next_kept, next_distance) => {
-                bytes[place] = b;
-                at = next_at;
-                kept = next_kept;
-                distance = next_distance;
-                marks[i] = 0;
-                i += 1;
-                continue;
-            }
-            Passing::Other => {}
+        if let Some(moved) = passing_of(shape, at, kept, distance, b) {
+            bytes[moved.place] = b;
+            at = moved.at;
+            kept = moved.kept;
+            distance = moved.distance;
+            marks[i] = 0;
+            i += 1;
+            continue;
         }
         let listener = Listener {
             bytes,
@@ -65,17 +61,17 @@ fn mark_each(l: Listener, s: &[u8], marks: &mut [u8])
 
 // Starts a listener for the form, feeds it every byte of the slice, and marks each byte that completes a string with 1, any other
 // with 0.
-pub fn mark(form: u32, s: &[u8], marks: &mut [u8]) -> Writing
+pub fn mark(form: u32, s: &[u8], marks: &mut [u8]) -> Result<usize, Refusal>
     ensures { Marked form s.now result marks.old marks.new }
 {
     if serial::length_of(form) == 0 {
-        return Writing::Refused(Refusal::UnknownForm);
+        return Err(Refusal::UnknownForm);
     }
     if marks.len() < s.len() {
-        return Writing::Refused(Refusal::ShortBuffer);
+        return Err(Refusal::ShortBuffer);
     }
     let started = Listener::new(form);
     let listener = started.listener;
     mark_each(listener, s, marks);
-    Writing::Written(s.len())
+    Ok(s.len())
 }

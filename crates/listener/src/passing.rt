@@ -5,32 +5,34 @@ ghost use Rattle.listener.specs.Passing.{passing_of};
 use crate::{buffered_after, one_more, ring};
 use serial::Shape;
 
-// The place of the ring where the byte goes, then the next state's `at`, `kept` and `distance`; or any other byte.
-#[derive(Clone, Copy)]
-pub enum Passing {
-    Passed(usize, usize, usize, usize),
-    Other,
+/// What such a byte leaves: the place of the ring where it goes, then the next state's numbers.
+#[derive(Clone, Copy, Debug, PartialEq, Eq)]
+pub struct Moved {
+    pub place: usize,
+    pub at: usize,
+    pub kept: usize,
+    pub distance: usize,
 }
 
+/// None for any other byte, and for a state that refusal 11 names.
 // Who holds the ring in place stores such a byte there: `feed` takes the state and hands back the next one, which copies the ring.
 // The last byte is tested first, by itself, which is a little quicker in the loops that are handed pieces.
-pub fn passing_of(shape: Shape, at: usize, kept: usize, distance: usize, b: u8) -> Passing
+pub fn passing_of(shape: Shape, at: usize, kept: usize, distance: usize, b: u8) -> Option<Moved>
     ensures { result ≡ passing_of shape at kept distance b }
 {
     let n = shape.length;
     if b == shape.end {
-        return Passing::Other;
+        return None;
     }
     // No state that refusal 11 names.
     if (kept < n) & (distance <= n) {
         let place = ring::place(at);
-        let next_at = ring::wrap(place + 1);
-        return Passing::Passed(
+        return Some(Moved {
             place,
-            next_at,
-            buffered_after(kept, n),
-            one_more(distance, n),
-        );
+            at: ring::wrap(place + 1),
+            kept: buffered_after(kept, n),
+            distance: one_more(distance, n),
+        });
     }
-    Passing::Other
+    None
 }

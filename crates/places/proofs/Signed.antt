@@ -1,4 +1,5 @@
 -- A sign by the first and the second of two letters: what its tests come to, and the number that it stands on.
+use Rattle.std.specs.Prelude.{Some}
 use Rattle.cond.proofs.Kit.{[], ◌&&◌, ◌<◌, ◌||◌, ◌∙◌, ◌∷◌, ◌≡◌, ◌≤◌, ap, Bool, drop, eqb, false, get_or, length, List, not, refl, sym, take, true, ℕ, ℤ}
 use Rattle.record.specs.declared.Position.TheVariants as PositionIs
 use Rattle.record.specs.Sign.{signed, signed_number}
@@ -30,5 +31,5 @@ module _ (s : List ℕ) (at : ℕ) (h : at < length s) where
       signed_small (not (eqb x a)) m l ∙ ap (λ (y : ℕ). signed (not (eqb y a)) m) e ∙ signed_at a b m n q
 
 -- a position of the same numbers
-pub same_position : (a b x y : ℤ) (m n : ℕ) → a ≡ b → x ≡ y → m ≡ n → PositionIs.Degrees a x m ≡ PositionIs.Degrees b y n
+pub same_position : (a b x y : ℤ) (m n : ℕ) → a ≡ b → x ≡ y → m ≡ n → Some (PositionIs.Degrees a x m) ≡ Some (PositionIs.Degrees b y n)
 same_position a b x y m n p q e = cc

@@ -1,17 +1,15 @@
 -- The last two tests of a reader over any form: on the record alone where the layout tells nothing besides, on the weekday too where
 -- it has a place for it.
+use Rattle.std.specs.Prelude.{Some, Ok, Err}
 use Rattle.cond.proofs.Kit.{[], ◌&&◌, ◌+◌, ◌||◌, ◌∙◌, ◌∷◌, ◌≡◌, and-true, ap, Bool, eqb, eqb-true, false, false≢true, length, List, not, not-true, refl, sym, true, ℕ}
-use Rattle.cond.specs.Pick.{pick}
 use Rattle.cond.proofs.Tests.{either_way}
 use Rattle.calendar.specs.Calendar.{is_date, weekday_of}
 use Rattle.record.specs.declared.Date.TheVariants as DateIs
-use Rattle.record.specs.declared.Flag.TheVariants as FlagIs
 use Rattle.record.specs.declared.Record.{Record}
 use Rattle.record.specs.declared.sign.SignRule.{SignRule}
 use Rattle.record.specs.declared.sign.SignRule.TheVariants.{OneAbove, OneBelow}
-use Rattle.record.specs.declared.answer.Reading.TheVariants as reading
 use Rattle.record.specs.declared.refusal.Refusal.TheVariants as refusal
-use Rattle.record.specs.Record.{channel_in_range, date_time_in_range, fraction_in_range, in_range, is_yes, offset_in_range, position_in_range, rest_in_range, zone_agrees}
+use Rattle.record.specs.Record.{channel_in_range, date_time_in_range, fraction_in_range, in_range, offset_in_range, position_in_range, rest_in_range, zone_agrees}
 use Rattle.forms.specs.Carries.{carries_of}
 use Rattle.forms.specs.Checksum.{checksums_hold}
 use Rattle.forms.specs.Fields.Date.{decode_date, full_date, has_date, weekday_in_range, weekday_consistent}
@@ -53,11 +51,11 @@ abbrev pub is_lean : Layout → Bool
 is_lean ps = every slots (λ f. not (among beside f && has ps f))
 
 -- one letter never tells both fields
-never_both : (z : ℕ) → not (is_yes (pick (eqb z 2) FlagIs.Yes FlagIs.No) && is_yes (pick (eqb z 1) FlagIs.Yes FlagIs.No)) ≡ true
+never_both : (n : ℕ) → not (eqb n 2 && eqb n 1) ≡ true
 never_both z = either_way (eqb z 2) (λ e. rw (eqb-true z 2 e)) (λ e. simp e)
 
 -- a date in range exists, so that it falls on a weekday where its weekday is that one
-on_date : (r : Record) (y m d n : ℕ) (x t : Bool) → r.date ≡ DateIs.Full y m d
+on_date : (r : Record) (y m d n : ℕ) (x t : Bool) → r.date ≡ Some (DateIs.Full y m d)
     → verdict (in_range r && x) (eqb n (weekday_of y m d) && t) r ≡ verdict (in_range r && x) (falls_on r.date n && t) r
 unfolding verdict
 on_date r y m d n x t e =
@@ -71,7 +69,7 @@ module _ (d : Form) (s : List ℕ) where
   abbrev v : Values
   v = values_by d s
 
-  abbrev decoded : Record
+  abbrev pub decoded : Record
   decoded = decode (carries d) v
 
   -- what is told twice, but for the weekday
@@ -82,7 +80,7 @@ module _ (d : Form) (s : List ℕ) where
   unfolding zone_agrees carries_of decode_flag
   zone_agrees_lem h = rw h (either_way (has d.layout zone) (λ e. rw e (never_both (v zone))) (λ e. simp e))
 
-  full_date_lem : has d.layout month ≡ true → decoded.date ≡ DateIs.Full (v year) (v month) (v day)
+  pub full_date_lem : has d.layout month ≡ true → decoded.date ≡ Some (DateIs.Full (v year) (v month) (v day))
   unfolding carries_of decode_date
   full_date_lem h = simp h
 
@@ -102,7 +100,7 @@ module _ (d : Form) (s : List ℕ) where
     none : (f : Slot) → among beside f ≡ true → v f ≡ 0
     none f m = nowhere d.layout 0 s f (lacking f m)
 
-    numbers_lean : numbers_in_range v ≡ true
+    pub numbers_lean : numbers_in_range v ≡ true
     unfolding numbers_in_range
     numbers_lean = simp (none offset_minutes refl, none quality refl, none deletion refl, none latitude_minute refl, none longitude_minute refl)
 
@@ -114,7 +112,7 @@ module _ (d : Form) (s : List ℕ) where
     unfolding signs_consistent sign_consistent
     signs_lean = simp (no_sign (sign_rule (carries d).offset), none south refl, none west refl)
 
-    rest_lean : rest_consistent ≡ true
+    pub rest_lean : rest_consistent ≡ true
     unfolding carries_of leap_consistent seconds_consistent
     rest_lean = simp (lacking leap_second refl, lacking day_seconds refl, signs_lean) (zone_agrees_lem (lacking utc refl))
 
@@ -160,9 +158,9 @@ module _ (d : Form) (s : List ℕ) (r : Record) (e : r ≡ decoded d s) where
 
 -- how a reader ends behind the tests of its bytes, where t tells the ranges and u what is told twice
 pub record Ends (d : Form) (s : List ℕ) (r : Record) (t u : Bool) : Type 0 where
-  pub ranged : t ≡ false → reading.Refused refusal.OutOfRange ≡ read_by d s
-  pub agreed : t ≡ true → u ≡ false → reading.Refused refusal.Disagreement ≡ read_by d s
-  pub told : t ≡ true → u ≡ true → reading.Read r ≡ read_by d s
+  pub ranged : t ≡ false → Err refusal.OutOfRange ≡ read_by d s
+  pub agreed : t ≡ true → u ≡ false → Err refusal.Disagreement ≡ read_by d s
+  pub told : t ≡ true → u ≡ true → Ok r ≡ read_by d s
 
 -- of a string of the right length, shape, which was tested by b, and checksum that decodes to r
 module _ (d : Form) (s : List ℕ) (l : length s ≡ d.size) (b : Bool) (h : b ≡ shape d.layout 0 s) (n : b ≡ true) (q : checksums_hold d.checksums s (values_by d s) ≡ true) where

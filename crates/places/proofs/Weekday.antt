@@ -1,4 +1,5 @@
 -- A full date in range exists, so that a record that a writer stores has a weekday and a day of the year.
+use Rattle.std.specs.Prelude.{Option, None, Some}
 use Rattle.cond.proofs.Kit.{◌∙◌, ◌≡◌, ap, false≢true, sym, true, ℕ}
 use Rattle.cond.proofs.Tests.{both}
 use Rattle.record.specs.declared.Date.{Date}
@@ -14,11 +15,11 @@ use Rattle.fields.specs.Dates.{ordinal_of}
 use Rattle.fields.proofs.Dates.{number_of, ordinal_in_range}
 use Rattle.places.specs.Weekday.{encode_weekday, exists, weekday_on}
 
-in_range_exists : (d : Date) → has_date full_date d ≡ true → date_in_range d ≡ true → exists d ≡ true
+in_range_exists : (d : Option Date) → has_date full_date d ≡ true → date_in_range d ≡ true → exists d ≡ true
 unfolding date_in_range
-in_range_exists DateIs.Absent h i = absurd (false≢true h)
-in_range_exists (DateIs.Full y m d) h i = i
-in_range_exists (DateIs.DayOfYear n) h i = absurd (false≢true h)
+in_range_exists None h i = absurd (false≢true h)
+in_range_exists (Some (DateIs.Full y m d)) h i = i
+in_range_exists (Some (DateIs.DayOfYear n)) h i = absurd (false≢true h)
 
 pub date_exists : (r : Record) → has_date full_date r.date ≡ true → in_range r ≡ true → exists r.date ≡ true
 unfolding in_range

@@ -1,10 +1,9 @@
 -- The contract of a writer over any form: its answer is `admitted`, and what it stored are the form's bytes.
+use Rattle.std.specs.Prelude.{Result, Ok, Err}
 use Rattle.cond.proofs.Kit.{[], ◌&&◌, ◌++◌, ◌∙◌, ◌∷◌, ◌≡◌, ◌≤◌, ap, arith, Bool, drop, false, leb, leb-true, length, List, lt-ltb, refl, sym, true, ℕ}
 use Rattle.cond.proofs.Tests.{both, either_way}
 use Rattle.spelling.specs.Spelling.{bits, digits, grouped, hex, padded, word, words}
 use Rattle.record.specs.declared.Record.{Record}
-use Rattle.record.specs.declared.answer.Writing.{Writing}
-use Rattle.record.specs.declared.answer.Writing.TheVariants as writing
 use Rattle.record.specs.declared.refusal.Refusal.{Refusal}
 use Rattle.record.specs.declared.refusal.Refusal.TheVariants as refusal
 use Rattle.record.specs.Record.{is_good}
@@ -27,17 +26,17 @@ use Rattle.places.proofs.Stored.{stores_form}
 
 -- `e` says whether there is a word for what a good record tells
 module _ (d : Form) (r : Record) (o : List ℕ) (e : Bool) (x : is_good r ≡ true → is_expressible d.layout (encode r) ≡ e) where
-  abbrev answer : Writing
+  abbrev answer : Result ℕ Refusal
   answer = admitted (is_good r) (has_carried (carries d) r) e d.size (length o)
 
   writes : write_by d r (length o) ≡ answer
   unfolding write_by admitted
   writes = either_way (is_good r) (λ g. rw (x g)) (λ g. simp g)
 
-  pub refused : (y : Refusal) → answer ≡ writing.Refused y → Wrote d r (writing.Refused y) o o
+  pub refused : (y : Refusal) → answer ≡ Err y → Wrote d r (Err y) o o
   refused y h = record { answer = sym (writes ∙ h); left = sym (left_refused d r o y (writes ∙ h)) }
 
-  module _ (n : ℕ) (h : answer ≡ writing.Written n) where
+  module _ (n : ℕ) (h : answer ≡ Ok n) where
     fits : d.size ≤ length o
     unfolding admitted
     fits =
@@ -51,7 +50,7 @@ module _ (d : Form) (r : Record) (o : List ℕ) (e : Bool) (x : is_good r ≡ tr
         let p = taken_by d r (length o) n (writes ∙ h) in
         record { good = p.good; carried = p.complete; expressible = p.spellable; fits = fits }
 
-    pub wrote_bytes : (after : List ℕ) → after ≡ bytes_by d (encode r) ++ drop d.size o → Wrote d r (writing.Written n) o after
+    pub wrote_bytes : (after : List ℕ) → after ≡ bytes_by d (encode r) ++ drop d.size o → Wrote d r (Ok n) o after
     wrote_bytes after q =
         record {
           answer = sym (writes ∙ h);
@@ -60,7 +59,7 @@ module _ (d : Form) (r : Record) (o : List ℕ) (e : Bool) (x : is_good r ≡ tr
               ∙ sym (left_written d r o n (writes ∙ h));
         }
 
-    pub wrote : is_sound_form d ≡ true → (after : List ℕ) → after ≡ stores d.layout 0 (written d r) o → Wrote d r (writing.Written n) o after
+    pub wrote : is_sound_form d ≡ true → (after : List ℕ) → after ≡ stores d.layout 0 (written d r) o → Wrote d r (Ok n) o after
     wrote t after q =
         let s = storable in
         wrote_bytes after (q ∙ stores_form d t r s.good s.expressible o s.fits)

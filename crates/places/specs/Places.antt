@@ -1,8 +1,6 @@
 -- Inner: what stands at places of a layout.
-use Rattle.std.specs.Prelude.{Bool, true, false, ◌&&◌, List, [], ◌∷◌, ℕ, ◌+◌, ◌*◌, leb, take, drop}
+use Rattle.std.specs.Prelude.{Bool, ◌&&◌, not, List, [], ◌∷◌, ℕ, ◌+◌, ◌*◌, leb, take, drop, Option, Some}
 use Rattle.cond.specs.Pick.{pick}
-use Rattle.record.specs.declared.Flag.{Flag}
-use Rattle.record.specs.declared.Flag.TheVariants as FlagIs
 use Rattle.spelling.specs.Bytes.{same_bytes}
 use Rattle.spelling.specs.Spelling.{digits, hex, is_spelled, value_of}
 
@@ -22,13 +20,12 @@ abbrev pub hex_number_at : List ℕ → ℕ → ℕ → ℕ
 hex_number_at s k w = pick (leb w 7) (value_of (hex w) (take w (drop k s))) 0
 
 -- a field that is no where the test holds, else yes
-abbrev pub flag_of : Bool → Flag
-flag_of true = FlagIs.No
-flag_of false = FlagIs.Yes
+abbrev pub flag_of : Bool → Option Bool
+flag_of t = Some (not t)
 
 -- a field that is yes where the test holds, else no
-abbrev pub yes_if : Bool → Flag
-yes_if t = pick t FlagIs.Yes FlagIs.No
+abbrev pub yes_if : Bool → Option Bool
+yes_if t = Some t
 
 -- the minutes of `hh:mm` at k
 abbrev pub minutes_of : List ℕ → ℕ → ℕ

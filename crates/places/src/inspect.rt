@@ -4,8 +4,6 @@ ghost use Rattle.spelling.specs.Bytes.{letters, same_bytes};
 ghost use Rattle.spelling.specs.Spelling.{digits, hex, is_spelled, padded, words};
 ghost use Rattle.places.specs.Places.{flag_of, hex_number_at, number_at, pairs_at, yes_if};
 
-use record::Flag;
-
 // The bytes at a place, as many of w as the slice has there.
 pub fn part_of(s: &[u8], at: usize, w: usize) -> &[u8]
     ensures { result.now ≡ take w (drop at s.now) }
@@ -36,6 +34,7 @@ pub fn text_at(s: &[u8], at: usize, text: &[u8]) -> bool
 }
 
 // The byte stands at a place.
+#[tactic(auto, using(crate::proofs::Letters::same_byte, crate::proofs::Letters::no_byte))]
 pub fn is_at(s: &[u8], at: usize, b: u8) -> bool
     ensures { result ≡ same_bytes (take 1 (drop at s.now)) (b ∷ []) }
 {
@@ -43,6 +42,7 @@ pub fn is_at(s: &[u8], at: usize, b: u8) -> bool
 }
 
 // So many decimal digits stand at a place.
+#[tactic(auto, unfolding(spelling::specs::Spelling::is_spelled))]
 pub fn digits_at(s: &[u8], at: usize, w: usize) -> bool
     ensures { result ≡ is_spelled (digits w) (take w (drop at s.now)) }
 {
@@ -51,6 +51,7 @@ pub fn digits_at(s: &[u8], at: usize, w: usize) -> bool
 }
 
 // Digits with spaces for leading zeros stand at a place.
+#[tactic(auto, unfolding(spelling::specs::Spelling::is_spelled))]
 pub fn padded_at(s: &[u8], at: usize, w: usize) -> bool
     ensures { result ≡ is_spelled (padded w) (take w (drop at s.now)) }
 {
@@ -70,6 +71,7 @@ pub fn number_at(s: &[u8], at: usize, w: usize) -> u32
 }
 
 // So many hexadecimal digits stand at a place.
+#[tactic(auto, unfolding(spelling::specs::Spelling::is_spelled))]
 pub fn hex_at(s: &[u8], at: usize, w: usize) -> bool
     ensures { result ≡ is_spelled (hex w) (take w (drop at s.now)) }
 {
@@ -104,6 +106,7 @@ pub fn pairs_at(s: &[u8], at: usize, separator: u8) -> bool
 }
 
 // One of the letters stands at a place.
+#[tactic(auto, using(crate::proofs::Letters::letter_is, crate::proofs::Letters::no_letter))]
 pub fn letter_at(s: &[u8], at: usize, choices: &[u8]) -> bool
     ensures { result ≡ is_spelled (words 1 (letters choices.now)) (take 1 (drop at s.now)) }
 {
@@ -114,34 +117,22 @@ pub fn letter_at(s: &[u8], at: usize, choices: &[u8]) -> bool
 }
 
 // A yes or no field by its letter for no.
-pub fn flag_at(s: &[u8], at: usize, no: u8) -> Flag
+pub fn flag_at(s: &[u8], at: usize, no: u8) -> Option<bool>
     ensures { result ≡ flag_of (eqb (get_or s.now at 0) no) }
 {
-    if byte_at(s, at) == no {
-        Flag::No
-    } else {
-        Flag::Yes
-    }
+    Some(byte_at(s, at) != no)
 }
 
 // A yes or no field by its letter for yes, where a letter tells more than one field.
-pub fn yes_at(s: &[u8], at: usize, yes: u8) -> Flag
+pub fn yes_at(s: &[u8], at: usize, yes: u8) -> Option<bool>
     ensures { result ≡ yes_if (eqb (get_or s.now at 0) yes) }
 {
-    if byte_at(s, at) == yes {
-        Flag::Yes
-    } else {
-        Flag::No
-    }
+    Some(byte_at(s, at) == yes)
 }
 
 // The same by a word of several letters.
-pub fn word_at(s: &[u8], at: usize, yes: &[u8]) -> Flag
+pub fn word_at(s: &[u8], at: usize, yes: &[u8]) -> Option<bool>
     ensures { result ≡ yes_if (same_bytes (take (length yes.now) (drop at s.now)) yes.now) }
 {
-    if text_at(s, at, yes) {
-        Flag::Yes
-    } else {
-        Flag::No
-    }
+    Some(text_at(s, at, yes))
 }

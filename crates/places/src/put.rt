@@ -6,7 +6,7 @@ ghost use Rattle.spelling.specs.Stored.{stored};
 ghost use Rattle.record.specs.Record.{is_yes};
 ghost use Rattle.places.specs.Stores.{pairs_stored, triple_stored};
 
-use record::Flag;
+use record::range::is_yes;
 
 // The letter of this number, the first being 0; where there is none, nothing is stored.
 fn put_letter(out: &mut [u8], at: usize, choices: &[u8], n: usize)
@@ -31,17 +31,23 @@ pub fn put_choice(out: &mut [u8], at: usize, choices: &[u8], yes: bool)
 }
 
 // A yes or no field by its two letters.
-pub fn put_flag(out: &mut [u8], at: usize, choices: &[u8], flag: Flag)
+pub fn put_flag(out: &mut [u8], at: usize, choices: &[u8], flag: Option<bool>)
     ensures { out.new ≡ stored out.old at (get_or (letters choices.now) (one_if (is_yes flag)) []) }
 {
-    put_letter(out, at, choices, number(flag.is_yes()));
+    put_letter(out, at, choices, number(is_yes(flag)));
 }
 
 // One letter for two fields: neither, the second alone, the first alone.
-pub fn put_shared(out: &mut [u8], at: usize, choices: &[u8], first: Flag, second: Flag)
+pub fn put_shared(
+    out: &mut [u8],
+    at: usize,
+    choices: &[u8],
+    first: Option<bool>,
+    second: Option<bool>,
+)
     ensures { out.new ≡ stored out.old at (get_or (letters choices.now) (one_if (is_yes first) * 2 + one_if (is_yes second)) []) }
 {
-    let n = number(first.is_yes()) * 2 + number(second.is_yes());
+    let n = number(is_yes(first)) * 2 + number(is_yes(second));
     put_letter(out, at, choices, n);
 }
 

@@ -2,24 +2,29 @@
 ghost use Rattle.std.specs.Prelude.{◌≡◌};
 ghost use Rattle.places.specs.Admitted.{admitted};
 
-use record::answer::Writing;
 use record::refusal::Refusal;
 
 // Refusals 7, 8, 9 and 10 in this order, else the number of bytes that are written.
-pub fn admitted(good: bool, carried: bool, expressible: bool, size: usize, room: usize) -> Writing
+pub fn admitted(
+    good: bool,
+    carried: bool,
+    expressible: bool,
+    size: usize,
+    room: usize,
+) -> Result<usize, Refusal>
     ensures { result ≡ admitted good carried expressible size room }
 {
     if !good {
-        return Writing::Refused(Refusal::BadRecord);
+        return Err(Refusal::BadRecord);
     }
     if !carried {
-        return Writing::Refused(Refusal::MissingField);
+        return Err(Refusal::MissingField);
     }
     if !expressible {
-        return Writing::Refused(Refusal::NotExpressible);
+        return Err(Refusal::NotExpressible);
     }
     if room < size {
-        return Writing::Refused(Refusal::ShortBuffer);
+        return Err(Refusal::ShortBuffer);
     }
-    Writing::Written(size)
+    Ok(size)
 }

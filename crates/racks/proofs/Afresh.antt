@@ -1,9 +1,9 @@
 -- The rows worked out afresh: call by call the rows of each rack stay the runs of the seconds that it told, and the openings those of the calls.
-use Rattle.cond.proofs.Kit.{[], ◌++◌, ◌∙◌, ◌∷◌, ◌≡◌, ◌≤◌, ap, append_assoc, append-nil, Bool, eq-eqb, eqb, eqb-false, eqb-true, false, inl, inr, length, List, map, not, refl, subst, sym, true, ℕ}
+use Rattle.cond.proofs.Kit.{[], ◌++◌, ◌∙◌, ◌∷◌, ◌≡◌, ◌≤◌, ap, ap₂, append_assoc, append-nil, Bool, eq-eqb, eqb, eqb-false, eqb-true, false, inl, inr, length, List, map, not, refl, subst, sym, true, ℕ}
+use Rattle.std.specs.Prelude.{Some}
 use Rattle.cond.specs.Pick.{pick}
 use Rattle.record.specs.declared.Record.{Record}
 use Rattle.runs.specs.declared.Run.{Run}
-use Rattle.runs.specs.declared.heard.SecondIn.TheVariants as second
 use Rattle.runs.specs.declared.second.Second.{Second}
 use Rattle.runs.specs.Afresh.{runs_of}
 use Rattle.runs.specs.Heard.{second_in}
@@ -11,7 +11,7 @@ use Rattle.runs.proofs.Grown.{follows, follows_last, grown, runs_snoc}
 use Rattle.racks.specs.declared.Row.{Row}
 use Rattle.racks.specs.Calls.{Call, Opening, Table, after, after_all, empty, in_use, listed, not_refused, opening_of, opening_on, openings, openings_from, opens_behind, own_of, records_of, seconds_of}
 use Rattle.racks.proofs.Answers.{refusals}
-use Rattle.racks.proofs.Tables.{Good, called, good_empty, table_of}
+use Rattle.racks.proofs.Tables.{Good, called, good_empty}
 use Rattle.racks.proofs.Taken.{Step, Steps, opening_for, step}
 
 -- the seconds that a rack told, with one call more
@@ -30,7 +30,7 @@ seconds_snoc (q ∷ rs) r = rw (seconds_snoc rs r, append_assoc)
 abbrev seconds_by : ℕ → List Call → List Second
 seconds_by k cs = seconds_of (records_of k cs)
 
-told_own : (k : ℕ) (cs : List Call) (c : Call) (s : Second) → eqb c.rack k ≡ true → second_in c.given ≡ second.Told s → seconds_by k (cs ++ (c ∷ [])) ≡ seconds_by k cs ++ (s ∷ [])
+told_own : (k : ℕ) (cs : List Call) (c : Call) (s : Second) → eqb c.rack k ≡ true → second_in c.given ≡ Some s → seconds_by k (cs ++ (c ∷ [])) ≡ seconds_by k cs ++ (s ∷ [])
 told_own k cs c s h e = rw (records_snoc k cs c, h, seconds_snoc (records_of k cs) c.given, e)
 
 told_other : (k : ℕ) (cs : List Call) (c : Call) → eqb c.rack k ≡ false → seconds_by k (cs ++ (c ∷ [])) ≡ seconds_by k cs
@@ -64,7 +64,8 @@ record Whole (t : Table) (before cs : List Call) : Type 0 where
 
 whole_by : (t : Table) (before : List Call) (c : Call) (cs : List Call) → Holds t before → Steps t c → ((ds : List Call) → Holds (after t c) ds → Whole (after t c) ds cs) → Whole t before (c ∷ cs)
 whole_by t before c cs h (inl r) ih =
-    let same : after t c ≡ t = ap table_of (refusals t.rows t.used c.rack c.given r) in
+    let q = refusals t.rows t.used c.rack c.given r in
+    let same : after t c ≡ t = ap₂ (λ (ys : List Row) (u : ℕ). record { rows = ys; used = u }) q.0 q.1 in
     let w = ih before (subst (λ (u : Table). Holds u before) (sym same) h) in
     record {
       holds = rw r w.holds;

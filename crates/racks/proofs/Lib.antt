@@ -1,8 +1,6 @@
-pub mod Changes
 pub mod Own
 pub mod Put
-pub mod Surveys
-pub mod Stored
+pub mod RackRows
 pub mod Answers
 pub mod Alone
 pub mod Tables
@@ -12,4 +10,3 @@ pub mod Afresh
 pub mod RackZero
 pub mod Racks
 pub mod Cases
-pub mod Values

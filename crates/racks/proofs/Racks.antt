@@ -1,6 +1,7 @@
 -- W-207 and W-206, put together.
 use Rattle.cond.proofs.Kit.{◌≡◌, arith, length, List}
-use Rattle.racks.specs.declared.Outcome.TheVariants as outcome
+use Rattle.std.specs.Prelude.{Err}
+use Rattle.record.specs.declared.refusal.Refusal.TheVariants as refusal
 use Rattle.racks.specs.declared.Row.{Row}
 use Rattle.racks.specs.Calls.{Call, after_all, empty, told}
 use Rattle.racks.specs.Racks.{Racks}
@@ -10,7 +11,7 @@ use Rattle.racks.proofs.Calls.{good_all, isolated, own_alone}
 use Rattle.racks.proofs.RackZero.{rack_zero}
 use Rattle.racks.proofs.Tables.{good_empty, good_table}
 
-possible : (rows : List Row) → length rows ≡ 64 → (cs : List Call) (c : Call) → told (after_all (empty rows) cs) c ≡ outcome.BadTable → ⊥
+possible : (rows : List Row) → length rows ≡ 64 → (cs : List Call) (c : Call) → told (after_all (empty rows) cs) c ≡ Err refusal.BadTable → ⊥
 possible rows h cs c e =
     let t = after_all (empty rows) cs in
     let l = table_number t.rows t.used c.rack c.given (good_table t (good_all (empty rows) cs (good_empty rows h))) in

@@ -1,10 +1,9 @@
 -- One call on a table that is not refused: its rack is told, and left with, what its own runs say; the other rack's rows stay.
 use Rattle.cond.proofs.Kit.{[], ◌++◌, ◌<◌, ◌∙◌, ◌∷◌, ◌||◌, ◌≡◌, ◌≤◌, ◌⊎◌, add-one, ap, arith, Bool, eq-eqb, eqb, eqb-false, eqb-true, false, inl, inr, le-leb, leb, leb-true, length, length-set, List, ltb, ltb-true, ne_eqb, refl, subst, sym, true, ℕ}
+use Rattle.std.specs.Prelude.{None, Option, Some}
 use Rattle.cond.proofs.Tests.{both_hold}
 use Rattle.record.specs.declared.Record.{Record}
 use Rattle.runs.specs.declared.Run.{Run}
-use Rattle.runs.specs.declared.heard.SecondIn.{SecondIn}
-use Rattle.runs.specs.declared.heard.SecondIn.TheVariants as second
 use Rattle.runs.specs.declared.second.Second.{Second}
 use Rattle.runs.specs.Heard.{second_in}
 use Rattle.runs.specs.Rows.{is_row, longer, single}
@@ -12,23 +11,23 @@ use Rattle.runs.proofs.Grown.{follows}
 use Rattle.runs.proofs.Possible.{NewestPossible, Possible, newest_of, possible_row}
 use Rattle.racks.specs.declared.Row.{Row}
 use Rattle.racks.specs.Calls.{Call, Table, after, call, empty, own_of, told}
-use Rattle.racks.specs.Rows.{After, added_to, is_of, is_rack, is_table, newest, newest_at, others, with_second, with_told}
+use Rattle.racks.specs.Rows.{After, added_to, is_of, is_rack, is_table, newest, newest_at, others, outcome_of, used_after, with_second, with_told}
 use Rattle.racks.proofs.Alone.{Alone, Rack, alone_full, alone_join, alone_open, alone_by, alone_on, alone_with, rack_by}
 use Rattle.racks.proofs.Answers.{added_none, added_told, with_full, with_join, with_open}
 use Rattle.racks.proofs.Own.{count, ends, follows_some, newest_at_lem}
 use Rattle.racks.proofs.Put.{joined_own, opened_other, opened_others, opened_own, other_own, others_set}
-use Rattle.racks.proofs.Stored.{Counted, counted, room}
+use Rattle.racks.proofs.RackRows.{Counted, counted, room}
 
-abbrev pub table_of : After → Table
-table_of a = record { rows = a.rows; used = a.answer.used }
+abbrev pub table_of : ℕ → After → Table
+table_of u a = record { rows = a.rows; used = used_after u a.answer }
 
 -- an answer and the table that it leaves, where rack k has the runs of a
 pub record Leaves (t : Table) (k : ℕ) (a : Alone) (b : After) : Type 0 where
-  pub tells : b.answer.outcome ≡ a.told
+  pub tells : outcome_of b.answer ≡ a.told
   pub full : length b.rows ≡ 64
-  pub only : others b.rows b.answer.used ≡ false
-  pub own_is : own_of k (table_of b) ≡ a.runs
-  pub other_is : (j : ℕ) → (k ≡ j → ⊥) → own_of j (table_of b) ≡ own_of j t
+  pub only : others b.rows (used_after t.used b.answer) ≡ false
+  pub own_is : own_of k (table_of t.used b) ≡ a.runs
+  pub other_is : (j : ℕ) → (k ≡ j → ⊥) → own_of j (table_of t.used b) ≡ own_of j t
 
 module _ (t : Table) (k : ℕ) (l : k ≤ 1) (c : Counted t.rows t.used) where
   -- the newest row of rack k is of no other rack
@@ -66,9 +65,9 @@ module _ (t : Table) (k : ℕ) (l : k ≤ 1) (c : Counted t.rows t.used) where
   with_leaves s false false p q =
       rw (with_full t.rows t.used k s p q, alone_full (own_of k t) s p q) record { tells = refl; full = c.full; only = c.only; own_is = refl; other_is = λ j ne. refl }
 
-  told_leaves : (m : SecondIn) → Leaves t k (alone_on (own_of k t) m) (with_told t.rows t.used k m)
-  told_leaves (second.Told s) = with_leaves s _ _ refl refl
-  told_leaves second.NotTold = record { tells = refl; full = c.full; only = c.only; own_is = refl; other_is = λ j ne. refl }
+  told_leaves : (m : Option Second) → Leaves t k (alone_on (own_of k t) m) (with_told t.rows t.used k m)
+  told_leaves (Some s) = with_leaves s _ _ refl refl
+  told_leaves None = record { tells = refl; full = c.full; only = c.only; own_is = refl; other_is = λ j ne. refl }
 
 pub leaves : (t : Table) (k : ℕ) (r : Record) → k ≤ 1 → is_table t.rows t.used ≡ true → Leaves t k (alone_by (own_of k t) r) (added_to t.rows t.used k r)
 leaves t k r l h = rw (added_told t.rows t.used k r (le-leb k 1 l) h _ refl) (told_leaves t k l (counted t.rows t.used h) (second_in r))
@@ -122,7 +121,7 @@ called_by t c true h g =
     let own_rack = subst Rack (sym s.own_is) (rack_by (own_of c.rack t) c.given (g.racks c.rack l)) in
     record { good = record { full = s.full; only = s.only; racks = λ j m. racks_by t (after t c) c.rack own_rack s.other_is g j m _ refl }; other_is = s.other_is }
 called_by t c false h g =
-    let same : after t c ≡ t = ap table_of (added_none t.rows t.used c.rack c.given h) in
+    let same : after t c ≡ t = ap (table_of t.used) (added_none t.rows t.used c.rack c.given h) in
     record { good = subst Good (sym same) g; other_is = λ j ne. ap (own_of j) same }
 
 pub called : (t : Table) (c : Call) → Good t → Called t c

@@ -1,22 +1,21 @@
 -- A call is refused and changes nothing, or its second is one more of those that its rack told, and opens a row where it follows none of the rack's runs.
 use Rattle.cond.proofs.Kit.{[], ◌++◌, ◌<◌, ◌∙◌, ◌∷◌, ◌≡◌, ◌≤◌, ◌⊎◌, add-one, ap, append-nil, arith, Bool, eqb-true, false, inl, inr, leb, leb-true, length, List, ltb, ltb-true, map, not, refl, set, subst, suc, sym, take, take-suc-set, true, zero, ℕ}
+use Rattle.std.specs.Prelude.{None, Option, Some}
 use mathlib.Core.List.{map-append}
 use lib.Seq.{map-set_same}
 use Rattle.cond.specs.Pick.{pick}
 use Rattle.runs.specs.declared.Run.{Run}
-use Rattle.runs.specs.declared.heard.SecondIn.{SecondIn}
-use Rattle.runs.specs.declared.heard.SecondIn.TheVariants as second
 use Rattle.runs.specs.declared.second.Second.{Second}
 use Rattle.runs.specs.Heard.{second_in}
 use Rattle.runs.specs.Rows.{longer, single}
 use Rattle.runs.proofs.Grown.{follows, grown}
 use Rattle.racks.specs.declared.Row.{Row}
 use Rattle.racks.specs.Calls.{Call, Opening, Table, in_use, opening_of, own_of}
-use Rattle.racks.specs.Rows.{After, added_to, is_refusal, newest, newest_at, no_row, row_at, with_second}
+use Rattle.racks.specs.Rows.{After, added_to, is_refusal, newest, newest_at, no_row, outcome_of, row_at, with_second}
 use Rattle.racks.proofs.Answers.{added_none, added_told, with_full, with_join, with_open}
 use Rattle.racks.proofs.Own.{follows_some, newest_at_lem}
 use Rattle.racks.proofs.Put.{joined_own, opened_own}
-use Rattle.racks.proofs.Stored.{Counted, counted, room}
+use Rattle.racks.proofs.RackRows.{Counted, counted, room}
 use Rattle.racks.proofs.Tables.{Good, good_table, table_of}
 
 map_take : (i : ℕ) (rows : List Row) → map opening_of (take i rows) ≡ take i (map opening_of rows)
@@ -30,12 +29,12 @@ opening_for ns k s = pick (not (follows ns s)) (record { rack = k; first = s } �
 
 -- a second that is taken
 pub record Taken (t : Table) (k : ℕ) (s : Second) (a : After) : Type 0 where
-  pub fresh : is_refusal a.answer.outcome ≡ false
-  pub grows : own_of k (table_of a) ≡ grown (own_of k t) s
-  pub arrives : map opening_of (in_use (table_of a)) ≡ map opening_of (in_use t) ++ opening_for (own_of k t) k s
+  pub fresh : is_refusal (outcome_of a.answer) ≡ false
+  pub grows : own_of k (table_of t.used a) ≡ grown (own_of k t) s
+  pub arrives : map opening_of (in_use (table_of t.used a)) ≡ map opening_of (in_use t) ++ opening_for (own_of k t) k s
 
 abbrev pub Refuses : After → Type 0
-Refuses a = is_refusal a.answer.outcome ≡ true
+Refuses a = is_refusal (outcome_of a.answer) ≡ true
 
 module _ (t : Table) (k : ℕ) (c : Counted t.rows t.used) (l : k ≤ 1) (s : Second) where
   joins_takes : follows (own_of k t) s ≡ true → Taken t k s (with_second t.rows t.used k s)
@@ -70,23 +69,23 @@ module _ (t : Table) (k : ℕ) (c : Counted t.rows t.used) (l : k ≤ 1) (s : Se
 pub record Step (t : Table) (c : Call) : Type 0 where
   pub rack : c.rack ≤ 1
   pub at : Second
-  pub tells : second_in c.given ≡ second.Told at
+  pub tells : second_in c.given ≡ Some at
   pub takes : Taken t c.rack at (added_to t.rows t.used c.rack c.given)
 
 abbrev pub Steps : Table → Call → Type 0
 Steps t c = Refuses (added_to t.rows t.used c.rack c.given) ⊎ Step t c
 
 module _ (t : Table) (c : Call) (g : Good t) where
-  carried : c.rack ≤ 1 → (s : Second) → second_in c.given ≡ second.Told s → (a : After) → a ≡ added_to t.rows t.used c.rack c.given → Refuses a ⊎ Taken t c.rack s a → Steps t c
+  carried : c.rack ≤ 1 → (s : Second) → second_in c.given ≡ Some s → (a : After) → a ≡ added_to t.rows t.used c.rack c.given → Refuses a ⊎ Taken t c.rack s a → Steps t c
   carried l s e a is (inl h) = inl (subst Refuses is h)
   carried l s e a is (inr k) = inr record { rack = l; at = s; tells = e; takes = subst (Taken t c.rack s) is k }
 
-  step_on : leb c.rack 1 ≡ true → (m : SecondIn) → second_in c.given ≡ m → Steps t c
-  step_on h (second.Told s) e =
+  step_on : leb c.rack 1 ≡ true → (m : Option Second) → second_in c.given ≡ m → Steps t c
+  step_on h (Some s) e =
       let is = good_table t g in
       let l = leb-true c.rack 1 h in
       carried l s e _ (sym (added_told t.rows t.used c.rack c.given h is _ e)) (with_takes t c.rack (counted t.rows t.used is) l s _ _ refl refl)
-  step_on h second.NotTold e = inl (rw (added_told t.rows t.used c.rack c.given h (good_table t g) _ e) refl)
+  step_on h None e = inl (rw (added_told t.rows t.used c.rack c.given h (good_table t g) _ e) refl)
 
   step_by : (b : Bool) → leb c.rack 1 ≡ b → Steps t c
   step_by true h = step_on h _ refl

@@ -1,17 +1,16 @@
 -- Calls one after the other, each on the rows and the number in use that the one before it left.
-use Rattle.std.specs.Prelude.{Bool, true, not, List, [], ◌∷◌, ◌++◌, map, ℕ, eqb, take}
+use Rattle.std.specs.Prelude.{Bool, true, not, List, [], ◌∷◌, ◌++◌, map, ℕ, eqb, take, Option, Some, None, Result}
 use Rattle.cond.specs.Pick.{pick}
 use Rattle.record.specs.declared.Record.{Record}
+use Rattle.record.specs.declared.refusal.Refusal.{Refusal}
 use Rattle.runs.specs.declared.Run.{Run}
-use Rattle.runs.specs.declared.heard.SecondIn.{SecondIn}
-use Rattle.runs.specs.declared.heard.SecondIn.TheVariants as second
 use Rattle.runs.specs.declared.second.Second.{Second}
 use Rattle.runs.specs.Afresh.{last_from}
 use Rattle.runs.specs.Heard.{second_in}
 use Rattle.runs.specs.Seconds.{is_next}
 use Rattle.racks.specs.declared.Outcome.{Outcome}
 use Rattle.racks.specs.declared.Row.{Row}
-use Rattle.racks.specs.Rows.{added_to, is_refusal, own}
+use Rattle.racks.specs.Rows.{added_to, is_refusal, outcome_of, own, used_after}
 
 -- a table and its number in use
 pub record Table : Type 0 where
@@ -38,17 +37,17 @@ abbrev pub call : ℕ → Record → Call
 call k r = record { rack = k; given = r }
 
 -- what a call on the table answers, and the table that it leaves
-abbrev pub told : Table → Call → Outcome
-told t c = (added_to t.rows t.used c.rack c.given).answer.outcome
+abbrev pub told : Table → Call → Result Outcome Refusal
+told t c = outcome_of (added_to t.rows t.used c.rack c.given).answer
 
 abbrev pub after : Table → Call → Table
 after t c = record {
   rows = (added_to t.rows t.used c.rack c.given).rows;
-  used = (added_to t.rows t.used c.rack c.given).answer.used;
+  used = used_after t.used (added_to t.rows t.used c.rack c.given).answer;
 }
 
 -- a list of calls: the answers, and the table at the end
-abbrev pub answers : Table → List Call → List Outcome
+abbrev pub answers : Table → List Call → List (Result Outcome Refusal)
 answers t [] = []
 answers t (c ∷ cs) = told t c ∷ answers (after t c) cs
 
@@ -57,7 +56,7 @@ after_all t [] = t
 after_all t (c ∷ cs) = after_all (after t c) cs
 
 -- "what one rack is told"
-abbrev pub told_to : ℕ → Table → List Call → List Outcome
+abbrev pub told_to : ℕ → Table → List Call → List (Result Outcome Refusal)
 told_to k t [] = []
 told_to k t (c ∷ cs) = pick (eqb c.rack k) (told t c ∷ told_to k (after t c) cs) (told_to k (after t c) cs)
 
@@ -72,9 +71,9 @@ not_refused t [] = []
 not_refused t (c ∷ cs) = pick (is_refusal (told t c)) (not_refused (after t c) cs) (c ∷ not_refused (after t c) cs)
 
 -- the seconds that records tell, in their order
-abbrev pub listed : SecondIn → List Second
-listed (second.Told s) = s ∷ []
-listed second.NotTold = []
+abbrev pub listed : Option Second → List Second
+listed (Some s) = s ∷ []
+listed None = []
 
 abbrev pub seconds_of : List Record → List Second
 seconds_of [] = []
@@ -94,9 +93,9 @@ opens_behind [] s = true
 opens_behind (a ∷ ss) s = not (is_next (last_from a ss) s)
 
 -- the openings of a list of calls, in "order of arrival", by the list alone: each call behind those before it
-abbrev pub opening_on : List Call → ℕ → SecondIn → List Opening
-opening_on before k (second.Told s) = pick (opens_behind (seconds_of (records_of k before)) s) (record { rack = k; first = s } ∷ []) []
-opening_on before k second.NotTold = []
+abbrev pub opening_on : List Call → ℕ → Option Second → List Opening
+opening_on before k (Some s) = pick (opens_behind (seconds_of (records_of k before)) s) (record { rack = k; first = s } ∷ []) []
+opening_on before k None = []
 
 abbrev pub openings_from : List Call → List Call → List Opening
 openings_from before [] = []

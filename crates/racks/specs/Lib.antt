@@ -2,4 +2,4 @@ pub mod Rows
 pub mod Calls
 pub mod Racks
 pub mod Cases
-pub mod Changes
+pub mod RackRows

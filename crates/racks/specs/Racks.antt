@@ -1,11 +1,11 @@
 -- W-207, and W-206 with it, as a reader of the requests would put them.
-use Rattle.std.specs.Prelude.{true, List, map, ◌≡◌, ℕ, ◌≤◌, length}
+use Rattle.std.specs.Prelude.{true, List, map, ◌≡◌, ℕ, ◌≤◌, length, Err}
 use Rattle.record.specs.declared.Record.{Record}
+use Rattle.record.specs.declared.refusal.Refusal.TheVariants as refusal
 use Rattle.runs.specs.Afresh.{runs_of}
-use Rattle.racks.specs.declared.Outcome.TheVariants as outcome
 use Rattle.racks.specs.declared.Row.{Row}
 use Rattle.racks.specs.Calls.{Call, Table, after, after_all, call, empty, in_use, not_refused, of_rack_zero, opening_of, openings, own_of, records_of, row_of_zero, seconds_of, told, told_to}
-use Rattle.racks.specs.Rows.{added_to, is_refusal, is_table, unchanged}
+use Rattle.racks.specs.Rows.{added_to, is_refusal, is_table, outcome_of, used_after}
 
 pub record Racks : Type 0 where
   -- "From an empty table as in W-206, what one rack is told, and the list of its own rows in order, must be the same however the other rack's
@@ -24,7 +24,7 @@ pub record Racks : Type 0 where
   pub rack_zero : (rows : List Row) → length rows ≡ 64 → (rs : List Record)
       → in_use (after_all (empty rows) (of_rack_zero rs)) ≡ map row_of_zero (runs_of (seconds_of (records_of 0 (not_refused (empty rows) (of_rack_zero rs)))))
   -- from an empty table no call is answered 21
-  pub possible : (rows : List Row) → length rows ≡ 64 → (cs : List Call) (c : Call) → told (after_all (empty rows) cs) c ≡ outcome.BadTable → ⊥
+  pub possible : (rows : List Row) → length rows ≡ 64 → (cs : List Call) (c : Call) → told (after_all (empty rows) cs) c ≡ Err refusal.BadTable → ⊥
   -- W-206: "all change nothing"
-  pub refusals : (rows : List Row) (used k : ℕ) (r : Record) → is_refusal (added_to rows used k r).answer.outcome ≡ true
-      → added_to rows used k r ≡ unchanged (added_to rows used k r).answer.outcome rows used
+  pub refusals : (rows : List Row) (used k : ℕ) (r : Record) → is_refusal (outcome_of (added_to rows used k r).answer) ≡ true
+      → ((added_to rows used k r).rows ≡ rows) × (used_after used (added_to rows used k r).answer ≡ used)

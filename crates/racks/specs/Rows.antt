@@ -1,37 +1,23 @@
 -- W-207: the rows of each rack, what one record does to them, and what is answered.
-use Rattle.std.specs.Prelude.{Bool, true, false, ◌&&◌, ◌||◌, not, List, [], ◌∷◌, ◌++◌, ℕ, zero, suc, ◌+◌, leb, ltb, eqb, length, get_or, set}
+use Rattle.std.specs.Prelude.{Bool, true, false, ◌&&◌, ◌||◌, not, List, [], ◌∷◌, ◌++◌, ℕ, zero, suc, ◌+◌, leb, ltb, eqb, length, get_or, set, Option, Some, None, Result, Ok, Err}
 use Rattle.cond.specs.Pick.{pick}
-use Rattle.record.specs.Refusal.{number_of}
 use Rattle.record.specs.declared.Record.{Record}
+use Rattle.record.specs.declared.refusal.Refusal.{Refusal}
 use Rattle.record.specs.declared.refusal.Refusal.TheVariants as refusal
 use Rattle.runs.specs.declared.Run.{Run}
-use Rattle.runs.specs.declared.heard.SecondIn.{SecondIn}
-use Rattle.runs.specs.declared.heard.SecondIn.TheVariants as second
 use Rattle.runs.specs.declared.second.Second.{Second}
 use Rattle.runs.specs.Heard.{second_in}
 use Rattle.runs.specs.Rows.{is_row, joins, longer, single}
 use Rattle.racks.specs.declared.Added.{Added}
+use Rattle.racks.specs.declared.Placed.{Placed}
 use Rattle.racks.specs.declared.Outcome.{Outcome}
 use Rattle.racks.specs.declared.Outcome.TheVariants as outcome
 use Rattle.racks.specs.declared.Row.{Row}
 
--- the paper's number of an outcome, 0 for none
-abbrev pub outcome_number : Outcome → ℕ
-outcome_number outcome.Joined = 0
-outcome_number outcome.Opened = 0
-outcome_number outcome.NoRack = number_of refusal.NoRack
-outcome_number outcome.BadTable = number_of refusal.BadTable
-outcome_number outcome.NoSecond = number_of refusal.NoSecond
-outcome_number outcome.NoRow = number_of refusal.NoRow
-
 -- a refusal
-abbrev pub is_refusal : Outcome → Bool
-is_refusal outcome.Joined = false
-is_refusal outcome.Opened = false
-is_refusal outcome.NoRack = true
-is_refusal outcome.BadTable = true
-is_refusal outcome.NoSecond = true
-is_refusal outcome.NoRow = true
+abbrev pub is_refusal : Result Outcome Refusal → Bool
+is_refusal (Ok x) = false
+is_refusal (Err x) = true
 
 -- row i of a table; past its end stands this one, which is never looked at
 abbrev pub no_second : Second
@@ -76,17 +62,31 @@ rack_holds k rows used = is_rack (length (own k rows used)) (newest k rows used)
 unfoldable pub is_table : List Row → ℕ → Bool
 is_table rows used = eqb (length rows) 64 && (leb used 64 && (not (others rows used) && (rack_holds 0 rows used && rack_holds 1 rows used)))
 
--- an answer and the rows afterwards: "Each answer carries the number in use."
+-- an answer and the rows afterwards
 pub record After : Type 0 where
-  pub answer : Added
+  pub answer : Result Placed Refusal
   pub rows : List Row
 
-abbrev pub answered : Outcome → ℕ → Added
-answered x used = record { outcome = x; used = used }
+abbrev pub answered : Outcome → ℕ → Result Placed Refusal
+answered x used = Ok (record { outcome = x; used = used })
 
--- "all change nothing": a refusal's answer has the number in use that was handed in
-abbrev pub unchanged : Outcome → List Row → ℕ → After
-unchanged x rows used = record { answer = answered x used; rows = rows }
+-- "Each answer carries the number in use.": behind a refusal it is the number that was handed in
+abbrev pub used_after : ℕ → Result Placed Refusal → ℕ
+used_after used (Ok a) = a.used
+used_after used (Err x) = used
+
+-- what was done, without the number in use
+abbrev pub outcome_of : Result Placed Refusal → Result Outcome Refusal
+outcome_of (Ok a) = Ok a.outcome
+outcome_of (Err x) = Err x
+
+-- what a call answers: "Each answer carries the number in use."
+abbrev pub added_of : ℕ → Result Placed Refusal → Added
+added_of used a = record { outcome = outcome_of a; used = used_after used a }
+
+-- "all change nothing"
+abbrev pub unchanged : Refusal → List Row → After
+unchanged x rows = record { answer = Err x; rows = rows }
 
 abbrev pub joined : List Row → ℕ → ℕ → Second → After
 joined rows used k s =
@@ -100,14 +100,14 @@ opened rows used k s = record { answer = answered outcome.Opened (used + 1); row
 unfoldable pub with_second : List Row → ℕ → ℕ → Second → After
 with_second rows used k s =
     pick (joins (newest k rows used) (length (own k rows used)) s) (joined rows used k s)
-    (pick (ltb (length (own k rows used)) 32) (opened rows used k s) (unchanged outcome.NoRow rows used))
+    (pick (ltb (length (own k rows used)) 32) (opened rows used k s) (unchanged refusal.NoRow rows))
 
 -- "then 14 no full date or a bad record"
-abbrev pub with_told : List Row → ℕ → ℕ → SecondIn → After
-with_told rows used k (second.Told s) = with_second rows used k s
-with_told rows used k second.NotTold = unchanged outcome.NoSecond rows used
+abbrev pub with_told : List Row → ℕ → ℕ → Option Second → After
+with_told rows used k (Some s) = with_second rows used k s
+with_told rows used k None = unchanged refusal.NoSecond rows
 
 -- "Refusals: 16 rack is not 0 or 1, first of all; 21 ..", then 14, then 15
 unfoldable pub added_to : List Row → ℕ → ℕ → Record → After
 added_to rows used k r =
-    pick (leb k 1) (pick (is_table rows used) (with_told rows used k (second_in r)) (unchanged outcome.BadTable rows used)) (unchanged outcome.NoRack rows used)
+    pick (leb k 1) (pick (is_table rows used) (with_told rows used k (second_in r)) (unchanged refusal.BadTable rows)) (unchanged refusal.NoRack rows)

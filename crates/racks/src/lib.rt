@@ -1,78 +1,90 @@
-// The runs of heard seconds of two racks, as rows of one table of 64 rows that the caller lends.
+//! The runs of heard seconds of two racks, as rows of one table of 64 rows that the caller lends.
 #![tactic(auto)]
 
 ghost use Rattle.std.specs.Prelude.{◌≡◌};
-ghost use Rattle.racks.specs.Rows.{added_to, outcome_number};
+ghost use Rattle.racks.specs.Rows.{added_of, added_to};
 
-use crate::change::{bad_table, changed};
-use crate::survey::{looked_at, nothing_seen, with_row};
+use crate::rack_rows::own_rows;
 use record::Record;
 use record::refusal::Refusal;
 use runs::Run;
+use runs::heard::second_in;
+use runs::row::joins;
 
-mod change;
-mod survey;
+mod rack_rows;
 
-// A run of one rack.
+/// A run of one rack, 0 or 1.
 #[repr(C)]
-#[derive(Clone, Copy)]
+#[derive(Clone, Copy, Debug, PartialEq, Eq)]
 pub struct Row {
     pub rack: u32,
     pub run: Run,
 }
 
-// The newest run of the rack has the second, a row was opened for it, or it is refused: there is no such rack, the table is none, the
-// record tells no second, the rack has no row left.
-#[derive(Clone, Copy)]
+/// What was done with a second: the newest run of its rack has it, or a row was opened for it.
+#[derive(Clone, Copy, Debug, PartialEq, Eq)]
 pub enum Outcome {
     Joined,
     Opened,
-    NoRack,
-    BadTable,
-    NoSecond,
-    NoRow,
 }
 
-impl Outcome {
-    // The number of the refusal, 0 for none.
-    pub fn number(self) -> u32
-        ensures { result ≡ outcome_number self }
-    {
-        match self {
-            Outcome::Joined => 0,
-            Outcome::Opened => 0,
-            Outcome::NoRack => Refusal::NoRack.number(),
-            Outcome::BadTable => Refusal::BadTable.number(),
-            Outcome::NoSecond => Refusal::NoSecond.number(),
-            Outcome::NoRow => Refusal::NoRow.number(),
-        }
-    }
-}
-
-// What a call answers: what it did, and the number of rows in use.
-#[derive(Clone, Copy)]
+/// What was done with a second, or why it is refused, and the number of rows in use afterwards: a refusal leaves that number as it is.
+#[derive(Clone, Copy, Debug, PartialEq, Eq)]
 pub struct Added {
-    pub outcome: Outcome,
+    pub outcome: Result<Outcome, Refusal>,
     pub used: u32,
 }
 
-// Puts a record's second into the newest run of its rack if it is the next one, and else into a row of its own. All that is decided is
-// decided by functions on values; this one lends them the rows in use, one by one, then the newest of each rack, and stores the row that
-// they answer.
+// What was done, and the number of rows in use afterwards.
+#[derive(Clone, Copy, Debug, PartialEq, Eq)]
+struct Placed {
+    outcome: Outcome,
+    used: u32,
+}
+
+/// Puts a record's second into the newest run of its rack if it is the next one, and else into a row of its own. Refused are, and change
+/// nothing: a rack other than 0 and 1 (16), a table of other than 64 rows or whose rows in use no calls can have left (21), a bad record
+/// or one without a full date (14), and a second for which a rack of 32 rows has to open one more (15).
 pub fn add(table: &mut [Row], used: u32, rack: u32, r: Record) -> Added
+    ensures { (result ≡ added_of used (added_to table.old used rack r).answer) × (table.new ≡ (added_to table.old used rack r).rows) }
+{
+    let placed = place(table, used, rack, r);
+    Added {
+        outcome: placed.map(|placed| placed.outcome),
+        used: placed.map_or(used, |placed| placed.used),
+    }
+}
+
+// A refusal leaves before any row is stored.
+fn place(table: &mut [Row], used: u32, rack: u32, r: Record) -> Result<Placed, Refusal>
     ensures { (result ≡ (added_to table.old used rack r).answer) × (table.new ≡ (added_to table.old used rack r).rows) }
 {
-    if table.len() != 64 {
-        return bad_table(rack, used);
+    let own = own_rows(table, used, rack)?;
+    let second = second_in(r).ok_or(Refusal::NoSecond)?;
+    let newest = table[own.newest].run;
+    if joins(newest, own.count, second) {
+        let run = Run {
+            last: second,
+            count: newest.count + 1,
+            ..newest
+        };
+        table[own.newest] = Row { rack, run };
+        return Ok(Placed {
+            outcome: Outcome::Joined,
+            used,
+        });
     }
-    let n = looked_at(used);
-    let mut s = nothing_seen();
-    let mut i: usize = 0;
-    while i < n {
-        s = with_row(s, i, table[i]);
-        i += 1;
+    if own.count >= 32 {
+        return Err(Refusal::NoRow);
     }
-    let c = changed(s, table[s.newest0], table[s.newest1], used, rack, r);
-    table[c.at] = c.row;
-    c.added
+    let run = Run {
+        first: second,
+        last: second,
+        count: 1,
+    };
+    table[used as usize] = Row { rack, run };
+    Ok(Placed {
+        outcome: Outcome::Opened,
+        used: used + 1,
+    })
 }

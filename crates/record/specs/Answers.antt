@@ -1,29 +1,21 @@
--- The paper's number and values for each answer of a reader and of a writer.
-use Rattle.std.specs.Prelude.{ℕ}
-use Rattle.record.specs.declared.answer.Reading.{Reading}
-use Rattle.record.specs.declared.answer.Reading.TheVariants as reading
-use Rattle.record.specs.declared.answer.Writing.{Writing}
-use Rattle.record.specs.declared.answer.Writing.TheVariants as writing
+-- The number of refusal and the values in the answers of readers and writers.
+use Rattle.std.specs.Prelude.{ℕ, Result, Ok, Err}
 use Rattle.record.specs.declared.Record.{Record}
+use Rattle.record.specs.declared.refusal.Refusal.{Refusal}
 use Rattle.record.specs.Record.{empty_record}
 use Rattle.record.specs.Refusal.{number_of}
 
--- the number of a reader's refusal, 0 for none
-abbrev pub read_number : Reading → ℕ
-read_number (reading.Read r) = 0
-read_number (reading.Refused x) = number_of x
+-- the number of the refusal in an answer, 0 for none
+abbrev pub number_in : {T : Type 0} → Result T Refusal → ℕ
+number_in (Ok x) = 0
+number_in (Err e) = number_of e
 
--- "A refused read returns the number and the empty record."
-abbrev pub read_record : Reading → Record
-read_record (reading.Read r) = r
-read_record (reading.Refused x) = empty_record
+-- the record of a reader's answer: a refused read has the empty record
+abbrev pub read_record : Result Record Refusal → Record
+read_record (Ok r) = r
+read_record (Err e) = empty_record
 
--- the number of a writer's refusal, 0 for none
-abbrev pub write_number : Writing → ℕ
-write_number (writing.Written n) = 0
-write_number (writing.Refused x) = number_of x
-
--- "A refused write returns the number and length 0": the bytes written
-abbrev pub written_length : Writing → ℕ
-written_length (writing.Written n) = n
-written_length (writing.Refused x) = 0
+-- the length of a writer's answer: a refused write has length 0
+abbrev pub written_length : Result ℕ Refusal → ℕ
+written_length (Ok n) = n
+written_length (Err e) = 0

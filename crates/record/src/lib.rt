@@ -1,5 +1,5 @@
-// The record of a time string, the refusals, and the answers of readers and writers.
-// A field that was not sent is `Absent`, a case of its own that no number stands for.
+//! The record of a time string, the refusals, and what the answers of readers and writers tell.
+//! A field that was not sent is `None`, which no number stands for.
 #![tactic(auto)]
 
 pub mod answer;
@@ -7,46 +7,24 @@ pub mod range;
 pub mod refusal;
 pub mod sign;
 
-#[derive(Clone, Copy)]
+/// The year by its two digits.
+#[derive(Clone, Copy, Debug, PartialEq, Eq)]
 pub enum Date {
-    Absent,
     Full { year: u32, month: u32, day: u32 },
     DayOfYear(u32),
 }
 
-#[derive(Clone, Copy)]
+/// Parts of the second. No unit is ever turned into another.
+#[derive(Clone, Copy, Debug, PartialEq, Eq)]
 pub enum Fraction {
-    Absent,
     Thousandths(u32),
     TenMillionths(u32),
     Hundredths(u32),
 }
 
-#[derive(Clone, Copy)]
-pub enum Channel {
-    Absent,
-    Number(u32),
-}
-
-// A field that is yes or no.
-#[derive(Clone, Copy)]
-pub enum Flag {
-    Absent,
-    No,
-    Yes,
-}
-
-// Minutes of local time minus UTC.
-#[derive(Clone, Copy)]
-pub enum Offset {
-    Absent,
-    Minutes(i32),
-}
-
-// North and east positive: ten-thousandths of a degree, with metres, or hundredths of a minute. One is never turned into the other.
-#[derive(Clone, Copy)]
+/// North and east positive: ten-thousandths of a degree, with metres, or hundredths of a minute. One is never turned into the other.
+#[derive(Clone, Copy, Debug, PartialEq, Eq)]
 pub enum Position {
-    Absent,
     Degrees {
         latitude: i32,
         longitude: i32,
@@ -58,22 +36,23 @@ pub enum Position {
     },
 }
 
-#[derive(Clone, Copy)]
+/// What a time string tells. `offset` is minutes of local time minus UTC; the default is time 00:00:00 and all else absent.
+#[derive(Clone, Copy, Debug, PartialEq, Eq, Default)]
 pub struct Record {
     pub hour: u32,
     pub minute: u32,
     pub second: u32,
-    pub date: Date,
-    pub fraction: Fraction,
-    pub channel: Channel,
-    pub sync: Flag,
-    pub fix: Flag,
-    pub utc: Flag,
-    pub summer: Flag,
-    pub change: Flag,
-    pub leap: Flag,
-    pub offset: Offset,
-    pub position: Position,
-    pub dsp: Flag,
-    pub lsp: Flag,
+    pub date: Option<Date>,
+    pub fraction: Option<Fraction>,
+    pub channel: Option<u32>,
+    pub sync: Option<bool>,
+    pub fix: Option<bool>,
+    pub utc: Option<bool>,
+    pub summer: Option<bool>,
+    pub change: Option<bool>,
+    pub leap: Option<bool>,
+    pub offset: Option<i32>,
+    pub position: Option<Position>,
+    pub dsp: Option<bool>,
+    pub lsp: Option<bool>,
 }

@@ -1,8 +1,8 @@
-// Why an input, a record, a buffer, a state or a table is refused. No two refusals share a number.
+//! Why an input, a record, a buffer, a state or a table is refused. No two refusals share a number.
 ghost use Rattle.std.specs.Prelude.{◌≡◌};
 ghost use Rattle.record.specs.Refusal.{number_of};
 
-#[derive(Clone, Copy)]
+#[derive(Clone, Copy, Debug, PartialEq, Eq)]
 pub enum Refusal {
     UnknownForm,
     WrongLength,
@@ -23,11 +23,12 @@ pub enum Refusal {
     BadTable,
 }
 
-impl Refusal {
-    pub fn number(self) -> u32
-        ensures { result ≡ number_of self }
-    {
-        match self {
+/// The number by which C, Python and the command name it; 0 names none.
+impl From<Refusal> for u32 {
+    ghost from_gives = { λ refusal n. n ≡ number_of refusal };
+
+    fn from(refusal: Refusal) -> u32 {
+        match refusal {
             Refusal::UnknownForm => 1,
             Refusal::WrongLength => 2,
             Refusal::WrongByte => 3,

@@ -1,5 +1,8 @@
 -- What a caller of `report_piece` may rely on: as many telegrams as the piece has strings, no more bytes than the output has, the last bytes
 -- carried, and no refusal where there is room.
+use Rattle.std.specs.Prelude.{Result, Err}
+use Rattle.report.specs.Piece.{reported}
+use Rattle.report.specs.Printed.{listed}
 use Rattle.cond.proofs.Kit.{◌++◌, ◌+◌, ◌-◌, ◌/◌, ◌<◌, ◌∙◌, ◌≡◌, ◌≤◌, ap, arith, Bool, drop, false, le-leb, leb, length, length-append, List, refl, sym, take, take_at, true, ℕ}
 use Rattle.cond.specs.Pick.{pick}
 use Rattle.record.specs.declared.refusal.Refusal.{Refusal}
@@ -10,33 +13,31 @@ use Rattle.serial.proofs.Lengths.{serial_long, some_serial}
 use Rattle.stream.proofs.Few.{few}
 use Rattle.stream.proofs.Window.{length_last}
 use Rattle.report.specs.Carry.{carried_of}
-use Rattle.report.specs.Piece.{ReportedPiece, and_carried, piece_answer, piece_in}
+use Rattle.report.specs.Piece.{ReportedPiece, and_carried, piece_answer, piece_bytes, piece_carried, piece_in, piece_telegrams}
 use Rattle.report.specs.Printed.{printed, records_answer, records_in}
 use Rattle.report.specs.declared.piece.PieceReport.{PieceReport}
-use Rattle.report.specs.declared.piece.PieceReport.TheVariants as piece
-use Rattle.report.specs.declared.records.Report.TheVariants as records
 
 answered : (a b : Bool) (count size most c k d : ℕ)
-    → piece.Written c k d
-    ≡ and_carried (pick a (pick b (records.Written count size) (records.Refused refusal.ShortBuffer)) (records.Refused refusal.UnknownForm)) most
+    → reported c k d
+    ≡ and_carried (pick a (pick b (listed count size) (Err refusal.ShortBuffer)) (Err refusal.UnknownForm)) most
     → (a ≡ true) × (c ≡ count) × (k ≡ size) × (d ≡ most)
 answered false b count size most c k d h = absurd (let z : ◌≡◌ {A = ℕ} 0 1 = cc in omega arith)
-answered true true count size most c k d h = (refl, cc, cc, cc)
+answered true true count size most c k d h = (refl, ap piece_telegrams h, ap piece_bytes h, ap piece_carried h)
 answered true false count size most c k d h = absurd (let z : ◌≡◌ {A = ℕ} 0 1 = cc in omega arith)
 
-module _ {form carried got : ℕ} {t : PieceReport} {buffer out buffer' out' : List ℕ} (h : ReportedPiece form carried got t buffer out buffer' out') where
+module _ {form carried got : ℕ} {t : Result PieceReport Refusal} {buffer out buffer' out' : List ℕ} (h : ReportedPiece form carried got t buffer out buffer' out') where
   abbrev s : List ℕ
   s = piece_in carried got buffer
 
-  pub not_refused_lem : 0 < length_of form → length s ≤ length out / 11 → {x : Refusal} → t ≡ piece.Refused x → ⊥
+  pub not_refused_lem : 0 < length_of form → length s ≤ length out / 11 → {x : Refusal} → t ≡ Err x → ⊥
   unfolding piece_answer records_answer
   not_refused_lem known room {x} e =
-      let told : t ≡ piece.Written (length (records_in form s)) (length (printed (records_in form s))) (length (carried_of form s)) =
+      let told : t ≡ reported (length (records_in form s)) (length (printed (records_in form s))) (length (carried_of form s)) =
       h.answer ∙ rw (some_serial form (λ e. omega arith), le-leb (length s) (length out / 11) room) in
       let z : ◌≡◌ {A = ℕ} 0 1 = cc in
       omega arith
 
-  module _ {c k d : ℕ} (e : t ≡ piece.Written c k d) where
+  module _ {c k d : ℕ} (e : t ≡ reported c k d) where
     sizes : (is_serial form ≡ true) × (c ≡ length (records_in form s)) × (k ≡ length (printed (records_in form s))) × (d ≡ length (carried_of form s))
     unfolding piece_answer records_answer
     sizes = answered (is_serial form) (leb (length s) (length out / 11)) _ _ _ c k d (sym e ∙ h.answer)

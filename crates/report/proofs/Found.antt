@@ -1,5 +1,7 @@
 -- What a search found is the first record of those still to come, and where it found nothing there are no more.
-use Rattle.cond.proofs.Kit.{[], ◌+◌, ◌<◌, ◌∙◌, ◌∷◌, ◌≡◌, arith, List, refl, sym, ℕ}
+use Rattle.search.specs.declared.Found as search
+use Rattle.std.specs.Prelude.{Result, Ok, Err}
+use Rattle.cond.proofs.Kit.{[], ◌+◌, ◌<◌, ◌∙◌, ◌∷◌, ◌≡◌, ap, arith, List, refl, sym, ℕ}
 use Rattle.record.specs.declared.Record.{Record}
 use Rattle.record.specs.declared.refusal.Refusal.{Refusal}
 use Rattle.forms.specs.Valid.{length_of, valid_of}
@@ -8,22 +10,20 @@ use Rattle.stream.proofs.Repeated.{search_goes_on}
 use Rattle.stream.proofs.Search.{found_first}
 use Rattle.serial.proofs.Lengths.{some_serial}
 use Rattle.serial.proofs.Strings.{serial_strings}
-use Rattle.search.specs.Answer.{search_of, searched}
-use Rattle.search.specs.declared.Finding.{Finding}
-use Rattle.search.specs.declared.Finding.TheVariants as finding
+use Rattle.search.specs.Answer.{finding_place, finding_record, search_of, searched}
 
-searched_found : (f : Found Record) (p : ℕ) (r : Record) → searched f ≡ finding.Found p r → f ≡ found p r
+searched_found : (f : Found Record) (p : ℕ) (r : Record) → searched f ≡ Ok (record { at = p; told = r }) → f ≡ found p r
 searched_found (found q x) p r h =
-    let a : q ≡ p = cc in
-    let b : x ≡ r = cc in
+    let a : q ≡ p = ap finding_place h in
+    let b : x ≡ r = ap finding_record h in
     cc
 searched_found not_found p r h = absurd (let z : ◌≡◌ {A = ℕ} 0 1 = cc in omega arith)
 
-searched_none : (f : Found Record) (x : Refusal) → searched f ≡ finding.Refused x → f ≡ not_found
+searched_none : (f : Found Record) (x : Refusal) → searched f ≡ Err x → f ≡ not_found
 searched_none (found q r) x h = absurd (let z : ◌≡◌ {A = ℕ} 0 1 = cc in omega arith)
 searched_none not_found x h = refl
 
-module _ (form : ℕ) (known : length_of form ≡ 0 → ⊥) (s : List ℕ) (start : ℕ) (a : Finding) (answer : a ≡ search_of form s start) where
+module _ (form : ℕ) (known : length_of form ≡ 0 → ⊥) (s : List ℕ) (start : ℕ) (a : Result search.Found Refusal) (answer : a ≡ search_of form s start) where
   -- the records from a place on
   abbrev from : ℕ → List Record
   from p = search_from (length_of form) (valid_of form) s p
@@ -38,7 +38,7 @@ module _ (form : ℕ) (known : length_of form ≡ 0 → ⊥) (s : List ℕ) (sta
   unfolding search_of
   is_searched = sym (answer ∙ rw (some_serial form known))
 
-  module _ (p : ℕ) (r : Record) (e : a ≡ finding.Found p r) where
+  module _ (p : ℕ) (r : Record) (e : a ≡ Ok (record { at = p; told = r })) where
     first : first_from (length_of form) (valid_of form) s start ≡ found p r
     first = searched_found _ p r (is_searched ∙ e)
 
@@ -48,7 +48,7 @@ module _ (form : ℕ) (known : length_of form ≡ 0 → ⊥) (s : List ℕ) (sta
     pub one_more : from start ≡ r ∷ from (p + length_of form)
     one_more = goes_on ∙ rw first
 
-  pub no_more : (x : Refusal) → a ≡ finding.Refused x → from start ≡ []
+  pub no_more : (x : Refusal) → a ≡ Err x → from start ≡ []
   no_more x e =
       let none_there : first_from (length_of form) (valid_of form) s start ≡ not_found = searched_none _ x (is_searched ∙ e) in
       goes_on ∙ rw none_there

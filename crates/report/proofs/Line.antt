@@ -1,4 +1,5 @@
 -- The parts of the last line, stored one behind the other, are the line stored whole.
+use Rattle.std.specs.Prelude.{Result, Ok, Err}
 use Rattle.cond.proofs.Kit.{[], ◌++◌, ◌+◌, ◌/◌, ◌<◌, ◌∙◌, ◌∷◌, ◌≡◌, ◌≤◌, ap, arith, Bool, drop, false, le-leb, leb, length, length-append, List, lt-leb, ltb, refl, sets-eq, suc, sym, take, take_at, true, zero, ℕ}
 use Rattle.cond.specs.Pick.{pick}
 use Rattle.cond.proofs.Tests.{either_way}
@@ -6,8 +7,6 @@ use Rattle.spelling.specs.Bytes.{decimal, digit_of, text}
 use Rattle.spelling.proofs.Base.{spelled_length}
 use Rattle.spelling.specs.Stored.{stored}
 use Rattle.spelling.proofs.Stored.{stored_append, stored_in, stored_length}
-use Rattle.record.specs.declared.answer.Writing.{Writing}
-use Rattle.record.specs.declared.answer.Writing.TheVariants as writing
 use Rattle.record.specs.declared.refusal.Refusal.{Refusal}
 use Rattle.record.specs.declared.refusal.Refusal.TheVariants as refusal
 use Rattle.report.specs.Summary.{Ended, end_answer, end_line, places_of, places_up_to}
@@ -49,14 +48,14 @@ module _ (bytes telegrams b t : ℕ) (eb : b ≡ places_of bytes) (et : t ≡ pl
       let parts = parts_long (text "end bytes=") (decimal b bytes) (text " telegrams=") (decimal t telegrams) 10 in
       omega (arith, ap length line_is, parts, digits_long b bytes, digits_long t telegrams)
 
-  pub no_room : length o ≤ 10 + b + 11 + t → Ended bytes telegrams (writing.Refused refusal.ShortBuffer) o o
+  pub no_room : length o ≤ 10 + b + 11 + t → Ended bytes telegrams (Err refusal.ShortBuffer) o o
   unfolding end_answer
   no_room l = record { answer = rw (lt-leb (length (end_line bytes telegrams)) (length o) (omega (arith, line_long))); left = refl }
 
   pub ended : 10 + b + 11 + t < length o → (after : List ℕ)
       → after ≡ stored (stored (stored (stored (stored o 0 (text "end bytes=")) 10 (decimal b bytes)) (10 + b) (text " telegrams=")) (10 + b + 11)
       (decimal t telegrams)) (10 + b + 11 + t) (10 ∷ [])
-      → Ended bytes telegrams (writing.Written (10 + b + 11 + t + 1)) o after
+      → Ended bytes telegrams (Ok (10 + b + 11 + t + 1)) o after
   unfolding end_answer
   ended l after h =
       let long = line_long in
@@ -70,11 +69,11 @@ module _ (bytes telegrams b t : ℕ) (eb : b ≡ places_of bytes) (et : t ≡ pl
       }
 
 -- what a caller may rely on: the line lies in the buffer, at its head
-written : (t : Bool) (size n : ℕ) → writing.Written n ≡ pick t (writing.Written size) (writing.Refused refusal.ShortBuffer) → n ≡ size
+written : (t : Bool) (size n : ℕ) → Ok n ≡ pick t (Ok size) (Err refusal.ShortBuffer) → n ≡ size
 written true size n h = cc
 written false size n h = absurd (let z : ◌≡◌ {A = ℕ} 0 1 = cc in omega arith)
 
-module _ {bytes telegrams : ℕ} {w : Writing} {before after : List ℕ} (h : Ended bytes telegrams w before after) {n : ℕ} (e : w ≡ writing.Written n) where
+module _ {bytes telegrams : ℕ} {w : Result ℕ Refusal} {before after : List ℕ} (h : Ended bytes telegrams w before after) {n : ℕ} (e : w ≡ Ok n) where
   size : n ≡ length (end_line bytes telegrams)
   unfolding end_answer
   size = written (leb (length (end_line bytes telegrams)) (length before)) (length (end_line bytes telegrams)) n (sym e ∙ h.answer)
@@ -99,11 +98,11 @@ unfolding places_of
 line_most bytes telegrams =
     omega (arith, line_long bytes telegrams (places_of bytes) (places_of telegrams) refl refl [], places_few 20 bytes, places_few 20 telegrams)
 
-pub not_short : {bytes telegrams : ℕ} {w : Writing} {before after : List ℕ} → Ended bytes telegrams w before after → 62 ≤ length before
-    → {x : Refusal} → w ≡ writing.Refused x → ⊥
+pub not_short : {bytes telegrams : ℕ} {w : Result ℕ Refusal} {before after : List ℕ} → Ended bytes telegrams w before after → 62 ≤ length before
+    → {x : Refusal} → w ≡ Err x → ⊥
 unfolding end_answer
 not_short {bytes} {telegrams} {before = before} h room e =
-    let told : _ ≡ writing.Written (length (end_line bytes telegrams)) =
+    let told : _ ≡ Ok (length (end_line bytes telegrams)) =
     h.answer ∙ rw (le-leb (length (end_line bytes telegrams)) (length before) (omega (arith, line_most bytes telegrams))) in
     let z : ◌≡◌ {A = ℕ} 0 1 = cc in
     omega arith

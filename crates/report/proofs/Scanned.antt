@@ -1,4 +1,7 @@
 -- The records still to come, stored from a column on, make of the buffer as it is what all records make of the buffer at entry.
+use Rattle.search.specs.declared.Found as search
+use Rattle.std.specs.Prelude.{Result, Ok, Err}
+use Rattle.report.specs.Printed.{listed}
 use Rattle.cond.proofs.Kit.{◌*◌, ◌++◌, ◌+◌, ◌-◌, ◌/◌, ◌<◌, ◌∙◌, ◌≡◌, ◌≤◌, ap, arith, drop, le-leb, length, length-append, length-sets, List, lt-leb, refl, sets, sets-eq, sym, take, true, ℕ}
 use Rattle.record.specs.declared.Record.{Record}
 use Rattle.record.specs.declared.refusal.Refusal.{Refusal}
@@ -11,10 +14,7 @@ use Rattle.serial.proofs.Strings.{valid_good}
 use Rattle.stream.specs.Search.{FirstAt, search_from}
 use Rattle.stream.specs.Window.{window}
 use Rattle.search.specs.Answer.{search_of}
-use Rattle.search.specs.declared.Finding.{Finding}
-use Rattle.search.specs.declared.Finding.TheVariants as finding
 use Rattle.report.specs.Printed.{WroteRecords, paragraph, printed, records_in, records_answer}
-use Rattle.report.specs.declared.records.Report.TheVariants as records
 use Rattle.report.proofs.Found.{first_at, no_more, one_more}
 use Rattle.report.proofs.Paragraphs.{paragraph_most, part_stored}
 
@@ -34,12 +34,12 @@ pub record Progress (form : ℕ) (s before out : List ℕ) (telegrams bytes star
   pub stored : sets before 0 (printed (records_in form s)) ≡ sets out bytes (printed (records_from form s start))
 
 module _ (form : ℕ) (s before : List ℕ) where
-  pub no_form : length_of form ≡ 0 → WroteRecords form s (records.Refused refusal.UnknownForm) before before
+  pub no_form : length_of form ≡ 0 → WroteRecords form s (Err refusal.UnknownForm) before before
   unfolding records_answer
   no_form e = record { answer = rw (not_serial form e); left = refl }
 
   module _ (known : length_of form ≡ 0 → ⊥) where
-    pub no_room : length before / 11 < length s → WroteRecords form s (records.Refused refusal.ShortBuffer) before before
+    pub no_room : length before / 11 < length s → WroteRecords form s (Err refusal.ShortBuffer) before before
     unfolding records_answer
     no_room h = record { answer = rw (some_serial form known, lt-leb (length s) (length before / 11) h); left = refl }
 
@@ -58,8 +58,8 @@ module _ (form : ℕ) (s before : List ℕ) where
         }
 
 module _ {form : ℕ} {s before out : List ℕ} {telegrams bytes start : ℕ} (i : Progress form s before out telegrams bytes start)
-    {a : Finding} (answer : a ≡ search_of form s start) where
-  pub wrote_all : {x : Refusal} → a ≡ finding.Refused x → WroteRecords form s (records.Written telegrams bytes) before out
+    {a : Result search.Found Refusal} (answer : a ≡ search_of form s start) where
+  pub wrote_all : {x : Refusal} → a ≡ Err x → WroteRecords form s (listed telegrams bytes) before out
   unfolding records_answer printed
   wrote_all {x} e =
       let last = no_more form i.known s start a answer x e in
@@ -73,7 +73,7 @@ module _ {form : ℕ} {s before out : List ℕ} {telegrams bytes start : ℕ} (i
         left = sym (i.stored ∙ rw last) ∙ laid ∙ rw (z, size);
       }
 
-  module _ {p : ℕ} {r : Record} (e : a ≡ finding.Found p r) where
+  module _ {p : ℕ} {r : Record} (e : a ≡ Ok (record { at = p; told = r })) where
     first : FirstAt (length_of form) (valid_of form) s start p r
     first = first_at form i.known s start a answer p r e
 

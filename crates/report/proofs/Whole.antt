@@ -1,4 +1,5 @@
 -- What is printed piece by piece is what a listener hands out over the whole stream, wherever the pieces end.
+use Rattle.report.specs.Piece.{reported}
 use mathlib.Core.List.{flatten}
 use Rattle.cond.proofs.Kit.{[], ◌++◌, ◌+◌, ◌-◌, ◌∙◌, ◌∷◌, ◌≡◌, append_assoc, append-nil, arith, length, length-append, List, refl, sym, take, true, ℕ}
 use Rattle.record.specs.declared.Record.{Record}
@@ -17,7 +18,6 @@ use Rattle.report.specs.Carry.{carried_of}
 use Rattle.report.specs.Piece.{ReportedPiece, piece_in}
 use Rattle.report.specs.Printed.{paragraph, printed, records_in}
 use Rattle.report.specs.Stream.{AsHeard, Reported, none_yet, one_more}
-use Rattle.report.specs.declared.piece.PieceReport.TheVariants as piece
 use Rattle.report.proofs.Answered.{carried_bytes, written_count, written_serial, written_text}
 
 printed_append : (rs qs : List Record) → printed (rs ++ qs) ≡ printed rs ++ printed qs
@@ -43,7 +43,7 @@ module _ (form : ℕ) where
 
   module _ {s : List ℕ} {carried : ℕ} {before text : List ℕ} {count : ℕ} (i : Held form s carried before text count)
       (p : List ℕ) {buffer out buffer' out' : List ℕ} {telegrams bytes k : ℕ} (brought : take (carried + length p) buffer ≡ take carried before ++ p)
-      (h : ReportedPiece form carried (length p) (piece.Written telegrams bytes k) buffer out buffer' out') where
+      (h : ReportedPiece form carried (length p) (reported telegrams bytes k) buffer out buffer' out') where
     known : is_serial form ≡ true
     known = written_serial h refl
 
@@ -76,7 +76,7 @@ records_heard form known s = sym ((demand_3.heard form known).same_as_search s)
 
 -- one slice: what a single call prints
 pub slice_heard : {form carried got : ℕ} {buffer out buffer' out' : List ℕ} {telegrams bytes k : ℕ}
-    → ReportedPiece form carried got (piece.Written telegrams bytes k) buffer out buffer' out'
+    → ReportedPiece form carried got (reported telegrams bytes k) buffer out buffer' out'
     → AsHeard form (piece_in carried got buffer) (take bytes out') telegrams
 slice_heard {form} {carried} {got} {buffer} h =
     let same = records_heard form (written_serial h refl) (piece_in carried got buffer) in

@@ -1,10 +1,10 @@
 -- "then the stream", which the program reads in pieces: each is reported together with the bytes carried from those before it.
+use Rattle.report.specs.Piece.{reported}
 use Rattle.std.specs.Prelude.{List, [], ◌∷◌, ◌++◌, ◌≡◌, ℕ, ◌+◌, length, take}
 use Rattle.stream.specs.Answer.{records_of}
 use Rattle.listener.specs.Listening.{hears}
 use Rattle.report.specs.Piece.{ReportedPiece}
 use Rattle.report.specs.Printed.{printed}
-use Rattle.report.specs.declared.piece.PieceReport.TheVariants as piece
 
 -- the pieces read so far, one call of `report_piece` for each; the bytes carried and the buffer that the last one left; all that was
 -- printed, and the telegrams counted
@@ -15,7 +15,7 @@ pub data Reported (form : ℕ) : List (List ℕ) → ℕ → List ℕ → List �
   one_more :
       {ps : List (List ℕ)} {carried : ℕ} {before text : List ℕ} {count : ℕ} → Reported form ps carried before text count
       → (p : List ℕ) {buffer out buffer' out' : List ℕ} {telegrams bytes k : ℕ} → take (carried + length p) buffer ≡ take carried before ++ p
-      → ReportedPiece form carried (length p) (piece.Written telegrams bytes k) buffer out buffer' out'
+      → ReportedPiece form carried (length p) (reported telegrams bytes k) buffer out buffer' out'
       → Reported form (ps ++ (p ∷ [])) k buffer' (text ++ take bytes out') (count + telegrams)
 
 -- "It prints each record as a block and an empty line", and "the number of records": those that a listener hands out over the bytes s

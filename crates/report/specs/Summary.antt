@@ -1,9 +1,8 @@
 -- The last line: "`end bytes=` with the number of stream bytes and ` telegrams=` with the number of records".
-use Rattle.std.specs.Prelude.{List, [], ◌∷◌, ◌++◌, ◌≡◌, ℕ, zero, suc, ◌+◌, ◌/◌, leb, ltb, length}
+use Rattle.record.specs.declared.refusal.Refusal.{Refusal}
+use Rattle.std.specs.Prelude.{List, [], ◌∷◌, ◌++◌, ◌≡◌, ℕ, zero, suc, ◌+◌, ◌/◌, leb, ltb, length, Result, Ok, Err}
 use Rattle.cond.specs.Pick.{pick}
 use Rattle.spelling.specs.Bytes.{decimal, text}
-use Rattle.record.specs.declared.answer.Writing.{Writing}
-use Rattle.record.specs.declared.answer.Writing.TheVariants as writing
 use Rattle.record.specs.declared.refusal.Refusal.TheVariants as refusal
 use Rattle.forms.specs.Form.{left_of}
 
@@ -24,11 +23,11 @@ unfoldable pub end_line : ℕ → ℕ → List ℕ
 end_line bytes telegrams = text "end bytes=" ++ (counted bytes ++ (text " telegrams=" ++ (counted telegrams ++ (10 ∷ []))))
 
 -- refusal 10 where the buffer is shorter than the line
-unfoldable pub end_answer : ℕ → ℕ → ℕ → Writing
+unfoldable pub end_answer : ℕ → ℕ → ℕ → Result ℕ Refusal
 end_answer bytes telegrams room =
-    pick (leb (length (end_line bytes telegrams)) room) (writing.Written (length (end_line bytes telegrams))) (writing.Refused refusal.ShortBuffer)
+    pick (leb (length (end_line bytes telegrams)) room) (Ok (length (end_line bytes telegrams))) (Err refusal.ShortBuffer)
 
 -- what the contract of `write_end` says: its answer, and every byte of the buffer afterwards
-pub record Ended (bytes telegrams : ℕ) (w : Writing) (before after : List ℕ) : Type 0 where
+pub record Ended (bytes telegrams : ℕ) (w : Result ℕ Refusal) (before after : List ℕ) : Type 0 where
   pub answer : w ≡ end_answer bytes telegrams (length before)
   pub left : after ≡ left_of w (end_line bytes telegrams) before

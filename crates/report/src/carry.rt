@@ -3,12 +3,6 @@ ghost use Rattle.std.specs.Prelude.{◌≡◌, ◌+◌, ◌≤◌, min, length, 
 ghost use Rattle.std.proofs.Math.Seq.{paste};
 ghost use Rattle.report.specs.Carry.{Carried};
 
-fn least(a: usize, b: usize) -> usize
-    ensures { result ≡ min a b }
-{
-    if a < b { a } else { b }
-}
-
 // Moves k bytes from a place to the head of the buffer. The first byte goes first, so that none is overwritten before it is moved.
 fn move_to_head(buffer: &mut [u8], from: usize, k: usize)
     requires { from + k ≤ length buffer.old }
@@ -30,8 +24,8 @@ pub fn carry_over(form: u32, buffer: &mut [u8], end: usize) -> usize
     if n == 0 {
         return 0;
     }
-    let filled = least(end, buffer.len());
-    let k = least(n - 1, filled);
+    let filled = end.min(buffer.len());
+    let k = (n - 1).min(filled);
     move_to_head(buffer, filled - k, k);
     k
 }

@@ -3,18 +3,15 @@ ghost use Rattle.std.specs.Prelude.{◌≡◌, ◌+◌, min};
 ghost use Rattle.report.specs.Piece.{ReportedPiece};
 
 use crate::carry::carry_over;
-use crate::records::{Report, write_records};
+use crate::records::write_records;
 use record::refusal::Refusal;
 
-// How many telegrams were found, how many bytes tell them, and how many bytes are carried to the next piece.
-#[derive(Drop)]
-pub enum PieceReport {
-    Written {
-        telegrams: usize,
-        bytes: usize,
-        carried: usize,
-    },
-    Refused(Refusal),
+/// How many telegrams were found, how many bytes tell them, and how many bytes are carried to the next piece.
+#[derive(Clone, Copy, Debug, PartialEq, Eq)]
+pub struct PieceReport {
+    pub telegrams: usize,
+    pub bytes: usize,
+    pub carried: usize,
 }
 
 // How many bytes of the buffer are filled, whatever the numbers.
@@ -38,16 +35,14 @@ pub fn report_piece(
     got: usize,
     buffer: &mut [u8],
     out: &mut [u8],
-) -> PieceReport
+) -> Result<PieceReport, Refusal>
     ensures { ReportedPiece form carried got result buffer.old out.old buffer.new out.new }
 {
     let end = filled(carried, got, buffer.len());
-    match write_records(form, &buffer[..end], out) {
-        Report::Written { telegrams, bytes } => PieceReport::Written {
-            telegrams,
-            bytes,
-            carried: carry_over(form, buffer, end),
-        },
-        Report::Refused(x) => PieceReport::Refused(x),
-    }
+    let report = write_records(form, &buffer[..end], out)?;
+    Ok(PieceReport {
+        telegrams: report.telegrams,
+        bytes: report.bytes,
+        carried: carry_over(form, buffer, end),
+    })
 }

@@ -5,13 +5,12 @@ ghost use Rattle.report.specs.Printed.{WroteRecords, paragraph};
 
 use record::Record;
 use record::refusal::Refusal;
-use search::Finding;
 
-// How many telegrams were found, and how many bytes tell them.
-#[derive(Drop)]
-pub enum Report {
-    Written { telegrams: usize, bytes: usize },
-    Refused(Refusal),
+/// How many telegrams were found, and how many bytes tell them.
+#[derive(Clone, Copy, Debug, PartialEq, Eq)]
+pub struct Report {
+    pub telegrams: usize,
+    pub bytes: usize,
 }
 
 // A record as a block and an empty line.
@@ -26,31 +25,24 @@ fn put_paragraph(r: Record, out: &mut [u8]) -> usize
 
 // Every record of the piece. A string has 16 bytes at the least and is told in 175 at the most, so that 11 bytes for each byte of the
 // piece are enough. No more than 175 are lent for a record: with a length that it knows the compiler leaves out every test of room.
-pub fn write_records(form: u32, piece: &[u8], out: &mut [u8]) -> Report
+pub fn write_records(form: u32, piece: &[u8], out: &mut [u8]) -> Result<Report, Refusal>
     ensures { WroteRecords form piece.now result out.old out.new }
 {
     let n = serial::length_of(form);
     if n == 0 {
-        return Report::Refused(Refusal::UnknownForm);
+        return Err(Refusal::UnknownForm);
     }
     if out.len() / 11 < piece.len() {
-        return Report::Refused(Refusal::ShortBuffer);
+        return Err(Refusal::ShortBuffer);
     }
     let mut telegrams = 0;
     let mut bytes = 0;
     let mut start = 0;
-    loop {
-        let finding = search::search(form, piece, start);
-        match finding {
-            Finding::Found { at, record } => {
-                let end = bytes + 175;
-                bytes += put_paragraph(record, &mut out[bytes..end]);
-                telegrams += 1;
-                start = at + n;
-            }
-            Finding::Refused(_) => {
-                return Report::Written { telegrams, bytes };
-            }
-        }
+    while let Ok(found) = search::search(form, piece, start) {
+        let end = bytes + 175;
+        bytes += put_paragraph(found.told, &mut out[bytes..end]);
+        telegrams += 1;
+        start = found.at + n;
     }
+    Ok(Report { telegrams, bytes })
 }

@@ -2,7 +2,6 @@
 ghost use Rattle.std.specs.Prelude.{◌≡◌, ◌≤◌};
 ghost use Rattle.report.specs.Summary.{Ended, places_of};
 
-use record::answer::Writing;
 use record::refusal::Refusal;
 
 // How many digits a number has: 20 at the most, which hold every u64.
@@ -22,7 +21,7 @@ fn places(n: u64) -> usize
 }
 
 // `end bytes=35 telegrams=1`
-pub fn write_end(bytes: u64, telegrams: u64, out: &mut [u8]) -> Writing
+pub fn write_end(bytes: u64, telegrams: u64, out: &mut [u8]) -> Result<usize, Refusal>
     ensures { Ended bytes telegrams result out.old out.new }
 {
     let b = places(bytes);
@@ -31,12 +30,12 @@ pub fn write_end(bytes: u64, telegrams: u64, out: &mut [u8]) -> Writing
     let count = key + 11;
     let end = count + t;
     if out.len() <= end {
-        return Writing::Refused(Refusal::ShortBuffer);
+        return Err(Refusal::ShortBuffer);
     }
     spelling::put_bytes(out, 0, b"end bytes=");
     spelling::put_count(out, 10, b, bytes);
     spelling::put_bytes(out, key, b" telegrams=");
     spelling::put_count(out, count, t, telegrams);
     spelling::put_byte(out, end, b'\n');
-    Writing::Written(end + 1)
+    Ok(end + 1)
 }

@@ -1,4 +1,4 @@
-// Latitude and longitude: their numbers of hundredths of a minute, their minutes alone, and their signs.
+//! Latitude and longitude: their numbers of hundredths of a minute, their minutes alone, and their signs.
 ghost use Rattle.std.specs.Prelude.{◌≡◌, ◌≤◌, length};
 ghost use Rattle.forms.specs.Fields.Position.{arc_in_range, decode_latitude, decode_longitude, decode_position, minutes, position_consistent};
 ghost use Rattle.forms.specs.Form.{values_by};
@@ -21,16 +21,16 @@ fn longitude_at(s: &[u8]) -> u32
 }
 
 // North and east are positive.
-pub(crate) fn position_at(s: &[u8]) -> Position
+pub(crate) fn position_at(s: &[u8]) -> Option<Position>
     requires { length s.now ≡ 65 }
     ensures { result ≡ decode_position minutes (values_by rmc s.now) }
 {
     let south = places::byte_at(s, 27) != b'N';
     let west = places::byte_at(s, 38) != b'E';
-    Position::Minutes {
+    Some(Position::Minutes {
         latitude: record::sign::signed_number(south, latitude_at(s)),
         longitude: record::sign::signed_number(west, longitude_at(s)),
-    }
+    })
 }
 
 // 8960.00 would be 90 degrees, which the range of the whole number lets pass.

@@ -1,18 +1,11 @@
-// The sum `hh` of a string: the exclusive-or of the 59 bytes between `$` and `*`.
+//! The sum `hh` of a string: the exclusive-or of the 59 bytes between `$` and `*`.
 ghost use Rattle.std.specs.Prelude.{◌≡◌};
-ghost use Rattle.forms.specs.Checksum.{checksum_of, checksums_hold};
-ghost use Rattle.forms.specs.Form.{values_by};
-ghost use Rattle.forms.specs.Serial.{rmc, rmc_checksum};
+ghost use Rattle.forms.specs.Checksum.{checksum_of};
+ghost use Rattle.forms.specs.Serial.{rmc_checksum};
 
 // Neither `$` nor `*` counts.
 pub(crate) fn checksum_of(s: &[u8]) -> u32
     ensures { result ≡ checksum_of rmc_checksum s.now }
 {
     spelling::xor_of(places::part_of(s, 1, 59)) as u32
-}
-
-pub(crate) fn checksum_holds(s: &[u8]) -> bool
-    ensures { result ≡ checksums_hold rmc.checksums s.now (values_by rmc s.now) }
-{
-    places::hex_number_at(s, 61, 2) == checksum_of(s)
 }

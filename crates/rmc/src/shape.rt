@@ -1,11 +1,12 @@
-// The bytes, digits and letters of the string.
+//! The bytes, digits and letters of the string, in pieces.
+#![tactic(auto, unfolding(forms::specs::Places::shape))]
+
 ghost use Rattle.std.specs.Prelude.{◌≡◌};
 ghost use Rattle.forms.specs.Places.{shape};
-ghost use Rattle.forms.specs.Serial.{rmc_layout};
 ghost use Rattle.rmc.specs.Layouts.{date_layout, latitude_layout, longitude_layout, time_layout};
 
 // `$GPRMC,hhmmss.ss,A,`
-fn is_time(s: &[u8]) -> bool
+pub(crate) fn is_time(s: &[u8]) -> bool
     ensures { result ≡ shape time_layout 0 s.now }
 {
     places::text_at(s, 0, b"$GPRMC,")
@@ -20,7 +21,7 @@ fn is_time(s: &[u8]) -> bool
 }
 
 // `bbbb.bb,n,`
-fn is_latitude(s: &[u8]) -> bool
+pub(crate) fn is_latitude(s: &[u8]) -> bool
     ensures { result ≡ shape latitude_layout 19 s.now }
 {
     places::digits_at(s, 19, 2)
@@ -31,7 +32,7 @@ fn is_latitude(s: &[u8]) -> bool
 }
 
 // `lllll.ll,e`
-fn is_longitude(s: &[u8]) -> bool
+pub(crate) fn is_longitude(s: &[u8]) -> bool
     ensures { result ≡ shape longitude_layout 29 s.now }
 {
     places::digits_at(s, 29, 3)
@@ -41,7 +42,7 @@ fn is_longitude(s: &[u8]) -> bool
 }
 
 // `,0.0,0.0,ddmmyy,0.0,E*`
-fn is_date(s: &[u8]) -> bool
+pub(crate) fn is_date(s: &[u8]) -> bool
     ensures { result ≡ shape date_layout 39 s.now }
 {
     places::text_at(s, 39, b",0.0,0.0,")
@@ -49,15 +50,4 @@ fn is_date(s: &[u8]) -> bool
         & places::digits_at(s, 50, 2)
         & places::digits_at(s, 52, 2)
         & places::text_at(s, 54, b",0.0,E*")
-}
-
-pub(crate) fn has_shape(s: &[u8]) -> bool
-    ensures { result ≡ shape rmc_layout 0 s.now }
-{
-    is_time(s)
-        & is_latitude(s)
-        & is_longitude(s)
-        & is_date(s)
-        & places::hex_at(s, 61, 2)
-        & places::text_at(s, 63, b"\r\n")
 }

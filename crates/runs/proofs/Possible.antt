@@ -1,13 +1,12 @@
 -- Runs that grow from one second stay possible rows: the calendar has too few seconds for a count over 4,000,000,000.
 use Rattle.cond.proofs.Kit.{[], ◌&&◌, ◌*◌, ◌+◌, ◌++◌, ◌<◌, ◌∷◌, ◌≡◌, ◌≤◌, ◌⊎◌, arith, Bool, eqb, eqb-true, false, inl, inr, le-leb, leb, List, refl, true, ℕ}
+use Rattle.std.specs.Prelude.{None, Option, Some}
 use Rattle.cond.proofs.Tests.{both, both_hold, either}
 use Rattle.record.specs.Record.{date_in_range, date_time_in_range, in_range, is_good, time_in_range, zone_agrees}
 use Rattle.record.specs.declared.Date.{Date}
 use Rattle.record.specs.declared.Date.TheVariants as DateIs
 use Rattle.record.specs.declared.Record.{Record}
 use Rattle.runs.specs.declared.Run.{Run}
-use Rattle.runs.specs.declared.heard.SecondIn.{SecondIn}
-use Rattle.runs.specs.declared.heard.SecondIn.TheVariants as second
 use Rattle.runs.specs.declared.second.Second.{Second}
 use Rattle.runs.specs.Heard.{second_in, second_on}
 use Rattle.runs.specs.Rows.{is_row, longer, single}
@@ -16,15 +15,15 @@ use Rattle.runs.proofs.Grown.{extended, follows}
 use Rattle.runs.proofs.Seconds.{minute_lt, second_range}
 
 -- the second that a record tells is of the calendar
-abbrev Known : SecondIn → Type 0
-Known (second.Told s) = is_second s ≡ true
-Known second.NotTold = Unit {0}
+abbrev Known : Option Second → Type 0
+Known (Some s) = is_second s ≡ true
+Known None = Unit {0}
 
-known_on : (d : Date) (h m s : ℕ) → time_in_range h m s ≡ true → date_in_range d ≡ true → Known (second_on d h m s)
+known_on : (d : Option Date) (h m s : ℕ) → time_in_range h m s ≡ true → date_in_range d ≡ true → Known (second_on d h m s)
 unfolding is_second date_in_range
-known_on DateIs.Absent h m s t e = tt
-known_on (DateIs.Full y k d) h m s t e = both_hold _ _ t e
-known_on (DateIs.DayOfYear n) h m s t e = tt
+known_on None h m s t e = tt
+known_on (Some (DateIs.Full y k d)) h m s t e = both_hold _ _ t e
+known_on (Some (DateIs.DayOfYear n)) h m s t e = tt
 
 known_by : (r : Record) (g : Bool) → is_good r ≡ g → Known (second_in r)
 unfolding second_in is_good in_range
@@ -33,7 +32,7 @@ known_by r true e =
     rw e (known_on r.date r.hour r.minute r.second g.0 g.1)
 known_by r false e = rw e tt
 
-pub told_second : (r : Record) (s : Second) → second_in r ≡ second.Told s → is_second s ≡ true
+pub told_second : (r : Record) (s : Second) → second_in r ≡ Some s → is_second s ≡ true
 told_second r s e = rw e at (known_by r _ refl)
 
 -- where a second stands among those of the calendar, with 61 in each minute

@@ -1,35 +1,27 @@
-// The second that a record tells.
+//! The second that a record tells.
 ghost use Rattle.std.specs.Prelude.{◌≡◌};
 ghost use Rattle.runs.specs.Heard.{second_in};
 
 use crate::second::Second;
 use record::{Date, Record};
 
-#[derive(Clone, Copy)]
-pub enum SecondIn {
-    Told(Second),
-    NotTold,
-}
-
-// Only a good record with a full date tells one.
+/// The second that a record tells; only a good one with a full date does.
 #[tactic(auto, unfolding(crate::specs::Heard::second_in))]
-pub fn second_in(r: Record) -> SecondIn
+pub fn second_in(r: Record) -> Option<Second>
     ensures { result ≡ second_in r }
 {
     if !r.is_good() {
-        return SecondIn::NotTold;
+        return None;
     }
-    let date = r.date;
-    match date {
-        Date::Absent => SecondIn::NotTold,
-        Date::Full { year, month, day } => SecondIn::Told(Second {
-            yy: year,
-            month,
-            day,
-            hour: r.hour,
-            minute: r.minute,
-            second: r.second,
-        }),
-        Date::DayOfYear(_) => SecondIn::NotTold,
-    }
+    let Some(Date::Full { year, month, day }) = r.date else {
+        return None;
+    };
+    Some(Second {
+        yy: year,
+        month,
+        day,
+        hour: r.hour,
+        minute: r.minute,
+        second: r.second,
+    })
 }

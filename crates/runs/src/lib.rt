@@ -1,4 +1,4 @@
-// Runs of heard seconds: which second is next, which second a record tells, and a run as a row of a table.
+//! Runs of heard seconds: which second is next, which second a record tells, and a run as a row of a table.
 #![tactic(auto)]
 
 pub mod heard;
@@ -7,9 +7,9 @@ pub mod second;
 
 use crate::second::Second;
 
-// Seconds that follow one another: the first, the last, and how many.
+/// Seconds that follow one another: the first, the last, and how many.
 #[repr(C)]
-#[derive(Clone, Copy)]
+#[derive(Clone, Copy, Debug, PartialEq, Eq)]
 pub struct Run {
     pub first: Second,
     pub last: Second,

@@ -1,13 +1,11 @@
-// A second of the calendar, and which second is next.
+//! A second of the calendar, and which second is next.
 ghost use Rattle.std.specs.Prelude.{◌≡◌, true};
 ghost use Rattle.calendar.specs.Calendar.{day_number};
 ghost use Rattle.runs.specs.Seconds.{in_minute, is_next, is_second, minute_of, over_minute, same_minute};
 
-use calendar::Day;
-
-// The year by its two digits.
+/// A second of the calendar, or six numbers that are none: `is_second` tells. The year by its two digits, 80 to 99 and 00 to 79.
 #[repr(C)]
-#[derive(Clone, Copy)]
+#[derive(Clone, Copy, Debug, PartialEq, Eq)]
 pub struct Second {
     pub yy: u32,
     pub month: u32,
@@ -17,7 +15,8 @@ pub struct Second {
     pub second: u32,
 }
 
-// Whether the calendar has this second.
+/// Whether the calendar has this second.
+#[tactic(auto, unfolding(crate::specs::Seconds::is_second))]
 pub fn is_second(s: Second) -> bool
     ensures { result ≡ is_second s }
 {
@@ -26,17 +25,16 @@ pub fn is_second(s: Second) -> bool
 }
 
 // The days from the calendar's first to the day of a second.
+#[tactic(auto, using(crate::proofs::Seconds::dated), unfolding(crate::specs::Seconds::is_second))]
 fn day_of(s: Second) -> u32
     requires { is_second s ≡ true }
     ensures { result ≡ day_number s.yy s.month s.day }
 {
-    match calendar::day_number(s.yy, s.month, s.day) {
-        Day::Number(n) => n,
-        Day::NoSuchDate => 0,
-    }
+    calendar::day_number(s.yy, s.month, s.day).unwrap_or(0)
 }
 
 // The minutes from the calendar's first to this one.
+#[tactic(auto, using(crate::proofs::Seconds::hour_lt, crate::proofs::Seconds::minutes_lt, crate::proofs::Seconds::days_lt), unfolding(crate::specs::Seconds::minute_of))]
 fn minute_of(s: Second) -> u32
     requires { is_second s ≡ true }
     ensures { result ≡ minute_of s }
@@ -44,6 +42,8 @@ fn minute_of(s: Second) -> u32
     day_of(s) * 1440 + (s.hour * 60 + s.minute)
 }
 
+// Whether both stand in one minute.
+#[tactic(auto, unfolding(crate::specs::Seconds::same_minute))]
 fn same_minute(a: Second, b: Second) -> bool
     ensures { result ≡ same_minute a b }
 {
@@ -51,6 +51,8 @@ fn same_minute(a: Second, b: Second) -> bool
         & ((a.day == b.day) & ((a.month == b.month) & (a.yy == b.yy)))
 }
 
+// Whether `b` is one second on in the minute of `a`.
+#[tactic(auto, using(crate::proofs::Seconds::second_le), unfolding(crate::specs::Seconds::in_minute))]
 fn in_minute(a: Second, b: Second) -> bool
     requires { is_second a ≡ true }
     ensures { result ≡ in_minute a b }
@@ -59,25 +61,21 @@ fn in_minute(a: Second, b: Second) -> bool
 }
 
 // Days are counted only where a minute ends.
+#[tactic(auto, using(crate::proofs::Seconds::minute_lt), unfolding(crate::specs::Seconds::over_minute))]
 fn over_minute(a: Second, b: Second) -> bool
     requires { (is_second a ≡ true) × (is_second b ≡ true) }
     ensures { result ≡ over_minute a b }
 {
-    if !((59 <= a.second) & (b.second == 0)) {
-        return false;
-    }
-    minute_of(b) == minute_of(a) + 1
+    ((59 <= a.second) & (b.second == 0)) && minute_of(b) == minute_of(a) + 1
 }
 
-// Whether `b` is the second after `a`.
+/// Whether `b` is the second after `a`.
+#[tactic(auto, unfolding(crate::specs::Seconds::is_next))]
 pub fn is_next(a: Second, b: Second) -> bool
     ensures { result ≡ is_next a b }
 {
     if !(is_second(a) & is_second(b)) {
         return false;
     }
-    if in_minute(a, b) {
-        return true;
-    }
-    over_minute(a, b)
+    in_minute(a, b) || over_minute(a, b)
 }

@@ -1,93 +1,72 @@
-// A search for the first valid string of a serial form in a lent slice.
+//! A search for the first valid string of a serial form in a lent slice.
 #![tactic(auto)]
 
 ghost use Rattle.std.specs.Prelude.{◌≡◌, ◌+◌, ◌≤◌, ◌<◌, length};
 ghost use Rattle.forms.specs.Valid.{end_of, length_of, record_in, start_of, valid_of};
 ghost use Rattle.stream.specs.Window.{window};
-ghost use Rattle.search.specs.Answer.{finding_number, finding_place, finding_record, search_of};
+ghost use Rattle.search.specs.Answer.{finding_place, finding_record, search_of};
 
 use record::Record;
-use record::answer::Reading;
 use record::refusal::Refusal;
 
-#[derive(Drop)]
-pub enum Finding {
-    Found { at: usize, record: Record },
-    Refused(Refusal),
+/// Where a string begins, and what it tells.
+#[derive(Clone, Copy, Debug, PartialEq, Eq)]
+pub struct Found {
+    pub at: usize,
+    pub told: Record,
 }
 
-impl Finding {
-    // The number of the refusal, 0 for none.
-    pub fn number(self) -> u32
-        ensures { result ≡ finding_number self }
-    {
-        match self {
-            Finding::Found { at: _, record: _ } => 0,
-            Finding::Refused(x) => x.number(),
-        }
+/// The place that was found: a refused search has place 0.
+pub fn place_in(finding: Result<Found, Refusal>) -> usize
+    ensures { result ≡ finding_place finding }
+{
+    match finding {
+        Ok(found) => found.at,
+        Err(_) => 0,
     }
+}
 
-    // A refused search has place 0.
-    pub fn place(self) -> usize
-        ensures { result ≡ finding_place self }
-    {
-        match self {
-            Finding::Found { at, record: _ } => at,
-            Finding::Refused(_) => 0,
-        }
-    }
-
-    // A refused search has the empty record.
-    pub fn record(self) -> Record
-        ensures { result ≡ finding_record self }
-    {
-        match self {
-            Finding::Found { at: _, record } => record,
-            Finding::Refused(_) => Record::empty(),
-        }
+/// The record that was found: a refused search has the empty record.
+pub fn record_in(finding: Result<Found, Refusal>) -> Record
+    ensures { result ≡ finding_record finding }
+{
+    match finding {
+        Ok(found) => found.told,
+        Err(_) => Record::empty(),
     }
 }
 
 // The string at a place, read where its first and its last byte are those of the form.
-fn read_at(form: u32, s: &[u8], p: usize, n: usize, first: u8, last: u8) -> Reading
+fn read_at(form: u32, s: &[u8], p: usize, n: usize, first: u8, last: u8) -> Result<Record, Refusal>
     requires { (n ≡ length_of form) × ((first ≡ start_of form) × ((last ≡ end_of form) × ((0 < n) × (p + n ≤ length s.now)))) }
     ensures { record_in result ≡ valid_of form (window n s.now p) }
 {
     if s[p] != first {
-        return Reading::Refused(Refusal::WrongByte);
+        return Err(Refusal::WrongByte);
     }
     let end = p + n;
     if s[end - 1] != last {
-        return Reading::Refused(Refusal::WrongByte);
+        return Err(Refusal::WrongByte);
     }
     serial::read(form, &s[p..end])
 }
 
-// The first valid string at or after the start.
-pub fn search(form: u32, s: &[u8], start: usize) -> Finding
+/// The first valid string at or after the start. Refusal 1 where the form is no serial one, then 12 where there is no such string.
+pub fn search(form: u32, s: &[u8], start: usize) -> Result<Found, Refusal>
     ensures { result ≡ search_of form s.now start }
 {
     let shape = serial::shape_of(form);
     let n = shape.length;
     if n == 0 {
-        return Finding::Refused(Refusal::UnknownForm);
+        return Err(Refusal::UnknownForm);
     }
     if s.len() < n {
-        return Finding::Refused(Refusal::NotFound);
+        return Err(Refusal::NotFound);
     }
-    let end = s.len() - n;
-    let first = shape.start;
-    let last = shape.end;
-    let mut p = start;
-    while p <= end {
-        let reading = read_at(form, s, p, n, first, last);
-        match reading {
-            Reading::Read(record) => {
-                return Finding::Found { at: p, record };
-            }
-            Reading::Refused(_) => {}
+    for p in start..s.len() - n + 1 {
+        if let Ok(told) = read_at(form, s, p, n, shape.start, shape.end) {
+            return Ok(Found { at: p, told });
         }
-        p += 1;
     }
-    Finding::Refused(Refusal::NotFound)
+    Err(Refusal::NotFound)
 }

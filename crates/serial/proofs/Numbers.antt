@@ -1,8 +1,8 @@
 -- What is said of a form is said of its number; a number that is none of a list's has no form there.
+use Rattle.std.specs.Prelude.{Result, Err}
+use Rattle.record.specs.declared.refusal.Refusal.{Refusal}
 use Rattle.cond.proofs.Kit.{[], ◌∷◌, ◌≡◌, List, ne_eqb, refl, ℕ}
 use Rattle.record.specs.declared.Record.{Record}
-use Rattle.record.specs.declared.answer.Writing.{Writing}
-use Rattle.record.specs.declared.answer.Writing.TheVariants as writing
 use Rattle.record.specs.declared.refusal.Refusal.TheVariants as refusal
 use Rattle.forms.specs.Form.{Form, Wrote}
 use Rattle.forms.specs.Forms.{FormKind, Numbered, WroteAs, form_kind_of, left_as, sized, unknown, write_as}
@@ -23,10 +23,10 @@ pub no_form : (es : List Numbered) (n : ℕ) → NoneOf (Unit {0}) es n → form
 no_form es n h = (none_of (Unit {0}) es n h).1
 
 module _ {l : FormKind} {r : Record} {before : List ℕ} where
-  pub wrote_sized : {d : Form} {w : Writing} {after : List ℕ} → l ≡ sized d → Wrote d r w before after → WroteAs l r w before after
+  pub wrote_sized : {d : Form} {w : Result ℕ Refusal} {after : List ℕ} → l ≡ sized d → Wrote d r w before after → WroteAs l r w before after
   unfolding write_as left_as
   wrote_sized e h = rw e record { answer = h.answer; left = h.left }
 
-  pub wrote_nothing : l ≡ unknown → WroteAs l r (writing.Refused refusal.UnknownForm) before before
+  pub wrote_nothing : l ≡ unknown → WroteAs l r (Err refusal.UnknownForm) before before
   unfolding write_as left_as
   wrote_nothing e = rw e record { answer = refl; left = refl }

@@ -7,7 +7,6 @@ ghost use Rattle.forms.specs.Valid.{length_of};
 ghost use Rattle.serial.specs.Shape.{shape_of, shaped};
 
 use record::Record;
-use record::answer::{Reading, Writing};
 use record::refusal::Refusal;
 
 // The bytes of a form's strings, the byte that they start with and have nowhere else, and the one that they end with.
@@ -52,7 +51,7 @@ pub fn length_of(form: u32) -> usize
 }
 
 // Each reader's answer is returned from its own arm: where the arms join, the records would be copied field by field.
-pub fn read(form: u32, s: &[u8]) -> Reading
+pub fn read(form: u32, s: &[u8]) -> Result<Record, Refusal>
     ensures { result ≡ read_as (form_kind_of serial_forms form) s.now }
 {
     match form {
@@ -85,10 +84,10 @@ pub fn read(form: u32, s: &[u8]) -> Reading
         }
         _ => {}
     }
-    Reading::Refused(Refusal::UnknownForm)
+    Err(Refusal::UnknownForm)
 }
 
-pub fn write(form: u32, r: Record, out: &mut [u8]) -> Writing
+pub fn write(form: u32, r: Record, out: &mut [u8]) -> Result<usize, Refusal>
     ensures { WroteAs (form_kind_of serial_forms form) r result out.old out.new }
 {
     match form {
@@ -101,6 +100,6 @@ pub fn write(form: u32, r: Record, out: &mut [u8]) -> Writing
         7 => computime::write(r, out),
         10 => sat::write(r, out),
         12 => rmc::write(r, out),
-        _ => Writing::Refused(Refusal::UnknownForm),
+        _ => Err(Refusal::UnknownForm),
     }
 }

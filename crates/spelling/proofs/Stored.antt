@@ -1,7 +1,8 @@
 -- A store with room for its bytes is that of the library, one without changes nothing, and no store changes the length.
-use Rattle.cond.proofs.Kit.{[], ◌*◌, ◌++◌, ◌+◌, ◌-◌, ◌<◌, ◌^◌, ◌∙◌, ◌∷◌, ◌≡◌, ◌≤◌, arith, Bool, false, le-leb, le-mul_of_pos_right, leb, leb-false, leb-true, length, length-append, length-sets, List, lt-leb, refl, sets, sym, true, ℕ}
+use Rattle.cond.proofs.Kit.{[], ◌*◌, ◌++◌, ◌+◌, ◌-◌, ◌<◌, ◌^◌, ◌∙◌, ◌∷◌, ◌≡◌, ◌≤◌, append_assoc, arith, Bool, false, le-leb, le-mul_of_pos_right, leb, leb-false, leb-true, length, length-append, length-sets, List, lt-leb, refl, sets, sets-eq, drop-drop, sym, true, ℕ}
 use Rattle.cond.specs.Pick.{pick}
 use Rattle.cond.proofs.Tests.{either_way}
+use borrow.Rule.Slice.PartMut.{put_mid}
 use Rattle.spelling.specs.Stored.{stored, up_to}
 use Rattle.spelling.proofs.Base.{power_pos}
 use Rattle.spelling.proofs.Stores.{sets_append}
@@ -29,6 +30,17 @@ module _ (o : List ℕ) (k : ℕ) (xs : List ℕ) where
   unfolding stored
   stored_length = either_way (leb (k + length xs) (length o)) (λ e. rw e (length-sets o k xs)) (λ e. rw e)
 
+-- what the answer of `has_room` tells of a store: of a part that is lent and filled, and of none
+module _ {t : Bool} (o : List ℕ) (k w : ℕ) (xs : List ℕ) (l : length xs ≡ w) (e : t ≡ leb (k + w) (length o)) where
+  pub stored_part : (x : List ℕ) → t ≡ true → x ≡ xs → put_mid k (k + w - k) o x ≡ stored o k xs
+  stored_part x h p =
+      let r : k + length xs ≤ length o = omega (arith, leb-true _ _ (sym e ∙ h)) in
+      let m : k + w - k ≡ length xs = omega arith in
+      rw (p, m, drop-drop, stored_in o k xs r, sets-eq xs o k r, append_assoc)
+
+  pub not_stored : t ≡ false → o ≡ stored o k xs
+  not_stored h = sym (stored_out o k xs (omega (arith, leb-false _ _ (sym e ∙ h))))
+
 -- one store behind the other is one of all the bytes
 pub stored_append : (o : List ℕ) (k : ℕ) (xs ys : List ℕ) → k + (length xs + length ys) ≤ length o
     → stored (stored o k xs) (k + length xs) ys ≡ stored o k (xs ++ ys)
@@ -49,16 +61,7 @@ module _ (m : ℕ) (s : List ℕ) (n : ℕ) where
   unfolding up_to
   many b base p h = (simp (lt-leb _ _ h), le-mul_of_pos_right b (power_pos base (length s) p))
 
--- room behind a place
-pub room_behind : (n k w : ℕ) → k ≤ n → leb w (n - k) ≡ leb (k + w) n
-room_behind n k w h =
-    either_way (leb w (n - k)) (λ e. e ∙ sym (le-leb (k + w) n (omega (arith, leb-true w (n - k) e))))
-    (λ e. e ∙ sym (lt-leb (k + w) n (omega (arith, leb-false w (n - k) e))))
-
 -- what the answer of `has_room` says
 module _ {t : Bool} {m n : ℕ} (e : t ≡ leb m n) where
   pub room : t ≡ true → m ≤ n
   room h = leb-true m n (sym e ∙ h)
-
-  pub no_room : t ≡ false → n < m
-  no_room h = leb-false m n (sym e ∙ h)

@@ -1,7 +1,8 @@
 -- How numbers and words are spelled in bytes.
-use Rattle.std.specs.Prelude.{Bool, true, false, ◌&&◌, ◌||◌, List, [], ◌∷◌, ◌++◌, ℕ, zero, suc, ◌+◌, ◌-◌, ◌*◌, ◌/◌, ◌%◌, ◌^◌, min, leb, ltb, eqb, length, take, drop}
+use Rattle.std.specs.Prelude.{Bool, true, false, ◌&&◌, ◌||◌, List, [], ◌∷◌, ◌++◌, map, fold, bytes_eq, ℕ, zero, suc, ◌+◌, ◌-◌, ◌*◌, ◌/◌, ◌%◌, ◌^◌, min, leb, ltb, eqb, length, take, drop}
 use Prim.Native.Char.{code}
 use Prim.Native.String.{String}
+use Rattle.std.specs.List.{list_all, list_any}
 use Rattle.std.specs.Int.Bits.{bit_xor}
 use Rattle.cond.specs.Pick.{one_if, pick}
 
@@ -12,15 +13,11 @@ text (String.◌∷◌ c s) = code c ∷ text s
 
 -- two byte strings are the same
 unfoldable pub same_bytes : List ℕ → List ℕ → Bool
-same_bytes [] [] = true
-same_bytes [] (y ∷ ys) = false
-same_bytes (x ∷ xs) [] = false
-same_bytes (x ∷ xs) (y ∷ ys) = eqb x y && same_bytes xs ys
+same_bytes = bytes_eq
 
 -- a test holds of every byte
 unfoldable pub all_are : (ℕ → Bool) → List ℕ → Bool
-all_are t [] = true
-all_are t (b ∷ bs) = t b && all_are t bs
+all_are = list_all
 
 -- the number that digits spell in a base, the first one the highest
 unfoldable pub number_in : ℕ → (ℕ → ℕ) → List ℕ → ℕ
@@ -168,8 +165,7 @@ groups_of base (gap e ∷ gs) n = e ∷ groups_of base gs n
 
 -- a word of the list
 unfoldable pub is_word : List (List ℕ) → List ℕ → Bool
-is_word [] x = false
-is_word (y ∷ ys) x = same_bytes x y || is_word ys x
+is_word ws x = list_any (same_bytes x) ws
 
 -- the place of a word in its list
 unfoldable pub word_place : List (List ℕ) → List ℕ → ℕ
@@ -178,15 +174,13 @@ word_place (y ∷ ys) x = pick (same_bytes x y) 0 (suc (word_place ys x))
 
 -- each letter a word
 unfoldable pub letters : List ℕ → List (List ℕ)
-letters [] = []
-letters (b ∷ bs) = (b ∷ []) ∷ letters bs
+letters = map (λ b. b ∷ [])
 
 -- sums
 
 -- the exclusive-or of a number and all bytes
 unfoldable pub xor_from : ℕ → List ℕ → ℕ
-xor_from acc [] = acc
-xor_from acc (b ∷ bs) = xor_from (bit_xor acc b) bs
+xor_from = fold bit_xor
 
 -- how many of the elements are ones
 unfoldable pub ones : List ℕ → ℕ

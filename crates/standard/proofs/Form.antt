@@ -9,7 +9,6 @@ use Rattle.forms.specs.Places.{has_words, has}
 use Rattle.forms.specs.Serial.{standard_layout}
 use Rattle.forms.specs.Encode.{encode}
 use Rattle.forms.proofs.Bounds.{good}
-use Rattle.standard.specs.Letters.{notice_agrees}
 
 one_below : (a : Bool) → ltb (one_if a) 2 ≡ true
 one_below true = refl
@@ -26,7 +25,7 @@ letters_there : (s f u m c l : Bool) → not (u && m) ≡ true
     → (ltb (one_if s) 2 && (ltb (one_if f) 2 && (ltb (one_if u * 2 + one_if m) 3 && (ltb (one_if c * 2 + one_if l) 3 && true)))) ≡ not (c && l)
 letters_there s f u m c l z = simp (one_below s, one_below f, two_below u m, z, two_below c l, and-true)
 
-pub has_words_of : (r : Record) → is_good r ≡ true → is_expressible standard_layout (encode r) ≡ notice_agrees r
-unfolding has_words has is_expressible letters notice_agrees
+pub has_words_of : (r : Record) → is_good r ≡ true → is_expressible standard_layout (encode r) ≡ not (is_yes r.change && is_yes r.leap)
+unfolding has_words has is_expressible letters
 has_words_of r g =
     letters_there (is_yes r.sync) (is_yes r.fix) (is_yes r.utc) (is_yes r.summer) (is_yes r.change) (is_yes r.leap) (good r g).zoned

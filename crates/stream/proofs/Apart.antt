@@ -1,5 +1,6 @@
 -- Valid strings of a form that lie in one list end n or more bytes apart.
-use Rattle.cond.proofs.Kit.{◌+◌, ◌-◌, ◌<◌, ◌∙◌, ◌≡◌, add_assoc, arith, drop, get_or-drop, get_or-take, List, Option, some, sym, ℕ}
+use Rattle.std.specs.Prelude.{Option, Some}
+use Rattle.cond.proofs.Kit.{◌+◌, ◌-◌, ◌<◌, ◌∙◌, ◌≡◌, add_assoc, arith, drop, get_or-drop, get_or-take, List, sym, ℕ}
 use Rattle.stream.specs.Heard.{heard_at}
 use Rattle.stream.specs.Strings.{Strings}
 use Rattle.stream.specs.Window.{window}
@@ -7,7 +8,7 @@ use Rattle.stream.proofs.Heard.{heard_some}
 
 module _ {R : Type 0} (n : ℕ) (valid : List ℕ → Option R) where
   pub ends_apart :
-      Strings n valid → (s : List ℕ) (k j : ℕ) (r q : R) → 0 < j → j < n → heard_at n valid s k ≡ some r → heard_at n valid s (k + j) ≡ some q → ⊥
+      Strings n valid → (s : List ℕ) (k j : ℕ) (r q : R) → 0 < j → j < n → heard_at n valid s k ≡ Some r → heard_at n valid s (k + j) ≡ Some q → ⊥
   ends_apart law s k j r q h0 h1 e1 e2 =
       let (l1, v1) = heard_some n valid s k r e1 in
       let v2 = (heard_some n valid s (k + j) q e2).1 in

@@ -1,5 +1,6 @@
 -- Refusal 13 never occurs: the distance counts the bytes since the last record, and a valid string ends n or more bytes behind it.
-use Rattle.cond.proofs.Kit.{[], ◌++◌, ◌+◌, ◌-◌, ◌<◌, ◌∙◌, ◌∷◌, ◌≡◌, ◌≤◌, ap, arith, le-ltb, length, length-append, List, ltb, ltb-false, ltb-true, min, none, Option, refl, some, suc, sym, zero, ℕ}
+use Rattle.std.specs.Prelude.{Option, None, Some}
+use Rattle.cond.proofs.Kit.{[], ◌++◌, ◌+◌, ◌-◌, ◌<◌, ◌∙◌, ◌∷◌, ◌≡◌, ◌≤◌, ap, arith, le-ltb, length, length-append, List, ltb, ltb-false, ltb-true, min, refl, suc, sym, zero, ℕ}
 use Rattle.cond.proofs.Tests.{either_way}
 use Rattle.stream.specs.Answer.{Answer, handed, handed_out, nothing, refused}
 use Rattle.stream.specs.Distance.{Fits, Since, State, distance_after, fresh, step_answer, step_next, unless_overlap}
@@ -31,7 +32,7 @@ module _ {R : Type 0} (m n : ℕ) (valid : List ℕ → Option R) where
 
   -- where a byte ends a valid string, the distance held before it is not under n-1
   not_under :
-      Strings n valid → (p : List ℕ) (b d : ℕ) (r : R) → Since n valid p d → heard_at n valid (p ++ (b ∷ [])) (length p + 1) ≡ some r → n - 1 ≤ d
+      Strings n valid → (p : List ℕ) (b d : ℕ) (r : R) → Since n valid p d → heard_at n valid (p ++ (b ∷ [])) (length p + 1) ≡ Some r → n - 1 ≤ d
   not_under law p b d r since h =
       either_way (ltb d (n - 1))
       (λ e.
@@ -49,29 +50,29 @@ module _ {R : Type 0} (m n : ℕ) (valid : List ℕ → Option R) where
   never_overlap :
       Strings n valid → (p : List ℕ) (b d : ℕ) → Since n valid p d
       → (o : Option R) → heard_at n valid (p ++ (b ∷ [])) (length p + 1) ≡ o → unless_overlap n d o ≡ handed_out o
-  never_overlap law p b d since none h = refl
-  never_overlap law p b d since (some r) h = rw (le-ltb d (n - 1) (not_under law p b d r since h))
+  never_overlap law p b d since None h = refl
+  never_overlap law p b d since (Some r) h = rw (le-ltb d (n - 1) (not_under law p b d r since h))
 
   -- the distance goes on counting
   since_next :
       (p : List ℕ) (b d : ℕ) → Since n valid p d
       → (o : Option R) → heard_at n valid (p ++ (b ∷ [])) (length p + 1) ≡ o → Since n valid (p ++ (b ∷ [])) (distance_after n d (handed_out o))
-  since_next p b d since (some r) h =
+  since_next p b d since (Some r) h =
       record {
         capped = omega arith;
         none_since = λ i l1 l2. absurd (omega arith);
         last_there = λ l. (r, let e : length p + 1 - 0 ≡ length p + 1 = omega arith in rw (length-append, e) h);
       }
-  since_next p b d since none h = record { capped = omega arith; none_since = none_still; last_there = there }
+  since_next p b d since None h = record { capped = omega arith; none_since = none_still; last_there = there }
     where
-      none_still : (i : ℕ) → i < min n (d + 1) → i < length (p ++ (b ∷ [])) → heard_at n valid (p ++ (b ∷ [])) (length (p ++ (b ∷ [])) - i) ≡ none
+      none_still : (i : ℕ) → i < min n (d + 1) → i < length (p ++ (b ∷ [])) → heard_at n valid (p ++ (b ∷ [])) (length (p ++ (b ∷ [])) - i) ≡ None
       none_still zero l1 l2 = let e : length p + 1 - 0 ≡ length p + 1 = omega arith in rw (length-append, e) h
       none_still (suc i) l1 l2 =
           let l3 = rw length-append at l2 in
           let e : length p + 1 - suc i ≡ length p - i = omega arith in
           rw (length-append, e) (heard_stays n valid p (b ∷ []) (length p - i) (omega arith) ∙ since.none_since i (omega arith) (omega arith))
 
-      there : min n (d + 1) < n → (r : R) × (heard_at n valid (p ++ (b ∷ [])) (length (p ++ (b ∷ [])) - min n (d + 1)) ≡ some r)
+      there : min n (d + 1) < n → (r : R) × (heard_at n valid (p ++ (b ∷ [])) (length (p ++ (b ∷ [])) - min n (d + 1)) ≡ Some r)
       there l =
           let last = since.last_there (omega arith) in
           let e : length p + 1 - min n (d + 1) ≡ length p - d = omega arith in

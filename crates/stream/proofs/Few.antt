@@ -1,5 +1,6 @@
 -- A list has no more strings than its bytes allow, and a piece behind fewer than n bytes no more than it has bytes itself.
-use Rattle.cond.proofs.Kit.{◌*◌, ◌+◌, ◌<◌, ◌≡◌, ◌≤◌, arith, le-mul_of_pos_right, length, List, mul_comm, mul-suc, Option, refl, suc, zero, ℕ}
+use Rattle.std.specs.Prelude.{Option}
+use Rattle.cond.proofs.Kit.{◌*◌, ◌+◌, ◌<◌, ◌≡◌, ◌≤◌, arith, le-mul_of_pos_right, length, List, mul_comm, mul-suc, refl, suc, zero, ℕ}
 use Rattle.stream.specs.Search.{Found, first_from, found, go_on, not_found, search_from, search_times}
 use Rattle.stream.proofs.Search.{found_first}
 

@@ -1,12 +1,13 @@
 -- What a byte hands out depends on its window alone: on no byte before it and on none behind it.
-use Rattle.cond.proofs.Kit.{[], ◌++◌, ◌+◌, ◌-◌, ◌<◌, ◌∙◌, ◌≡◌, ◌≤◌, arith, drop, drop-append-add, drop-append-le, drop-drop, le-leb, leb, leb-false, leb-true, length, length-drop, List, lt-leb, none, Option, some, sym, take-append-le, zero-add, ℕ}
+use Rattle.std.specs.Prelude.{Option, None, Some}
+use Rattle.cond.proofs.Kit.{[], ◌++◌, ◌+◌, ◌-◌, ◌<◌, ◌∙◌, ◌≡◌, ◌≤◌, arith, drop, drop-append-add, drop-append-le, drop-drop, le-leb, leb, leb-false, leb-true, length, length-drop, List, lt-leb, sym, take-append-le, zero-add, ℕ}
 use Rattle.cond.proofs.Tests.{either_way}
 use Rattle.stream.specs.Heard.{heard_at}
 use Rattle.stream.specs.Window.{window}
 
 module _ {R : Type 0} (n : ℕ) (valid : List ℕ → Option R) where
   -- before n bytes there is nothing
-  pub heard_short : (s : List ℕ) (k : ℕ) → k < n → heard_at n valid s k ≡ none
+  pub heard_short : (s : List ℕ) (k : ℕ) → k < n → heard_at n valid s k ≡ None
   unfolding heard_at
   heard_short s k l = rw (lt-leb n k l)
 
@@ -22,7 +23,7 @@ module _ {R : Type 0} (n : ℕ) (valid : List ℕ → Option R) where
       heard_window s (p + n) (omega arith) ∙ rw e
 
   -- a record is that of a valid window
-  pub heard_some : (s : List ℕ) (k : ℕ) (r : R) → heard_at n valid s k ≡ some r → (n ≤ k) × (valid (window n s (k - n)) ≡ some r)
+  pub heard_some : (s : List ℕ) (k : ℕ) (r : R) → heard_at n valid s k ≡ Some r → (n ≤ k) × (valid (window n s (k - n)) ≡ Some r)
   heard_some s k r h =
       either_way (leb n k) (λ e. (leb-true n k e, sym (heard_window s k (leb-true n k e)) ∙ h))
       (λ e.

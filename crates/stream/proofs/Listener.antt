@@ -1,5 +1,6 @@
 -- A listener that keeps the last m bytes hands out at each byte the record of the valid string that ends there.
-use Rattle.cond.proofs.Kit.{[], ◌++◌, ◌+◌, ◌<◌, ◌∙◌, ◌∷◌, ◌≡◌, ◌≤◌, append_snoc, arith, Bool, false, le-leb, leb, leb-false, leb-true, length, length-append, List, lt-leb, none, Option, refl, sym, true, ℕ}
+use Rattle.std.specs.Prelude.{Option, None}
+use Rattle.cond.proofs.Kit.{[], ◌++◌, ◌+◌, ◌<◌, ◌∙◌, ◌∷◌, ◌≡◌, ◌≤◌, append_snoc, arith, Bool, false, le-leb, leb, leb-false, leb-true, length, length-append, List, lt-leb, refl, sym, true, ℕ}
 use Rattle.cond.specs.Pick.{pick}
 use Rattle.stream.specs.Heard.{heard_all, heard_at, heard_from}
 use Rattle.stream.specs.Listener.{hit, kept_after, kept_answer}
@@ -20,7 +21,7 @@ module _ {R : Type 0} (m n : ℕ) (valid : List ℕ → Option R) (room : n ≤ 
   hit_heard p b = go (leb n (length p + 1)) refl
     where
       go : (t : Bool) → leb n (length p + 1) ≡ t
-          → pick (leb n (length (last_of m p) + 1)) (valid (last_of n (last_of m p ++ (b ∷ [])))) none ≡ heard_at n valid (p ++ (b ∷ [])) (length p + 1)
+          → pick (leb n (length (last_of m p) + 1)) (valid (last_of n (last_of m p ++ (b ∷ [])))) None ≡ heard_at n valid (p ++ (b ∷ [])) (length p + 1)
       go true e =
           let l = leb-true n (length p + 1) e in
           let long : n ≤ length (last_of m p) + 1 = rw length_last (omega arith) in

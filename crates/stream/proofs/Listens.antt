@@ -1,5 +1,6 @@
 -- Demand 3 over a form of n bytes follows from what the form supplies.
-use Rattle.cond.proofs.Kit.{◌++◌, ◌+◌, ◌<◌, ◌∙◌, ◌≡◌, ◌≤◌, ap, arith, drop, length, length-append, length-drop, List, none, Option, some, sym, ℕ}
+use Rattle.std.specs.Prelude.{Option, None, Some}
+use Rattle.cond.proofs.Kit.{◌++◌, ◌+◌, ◌<◌, ◌∙◌, ◌≡◌, ◌≤◌, ap, arith, drop, length, length-append, length-drop, List, sym, ℕ}
 use Rattle.stream.specs.Answer.{Answer, answer_at, handed_out, records_of, refused}
 use Rattle.stream.specs.Heard.{heard_all, heard_at}
 use Rattle.stream.specs.Listens.{Listens}
@@ -9,8 +10,8 @@ use Rattle.stream.proofs.Records.{heard_all_lem, length_heard}
 use Rattle.stream.proofs.Repeated.{search_from_lem}
 
 not_refused_lem : {R : Type 0} (o : Option R) (c : ℕ) → handed_out o ≡ refused c → ⊥
-not_refused_lem none c e = let y : ◌≡◌ {A = ℕ} 0 1 = cc in omega arith
-not_refused_lem (some r) c e = let y : ◌≡◌ {A = ℕ} 0 1 = cc in omega arith
+not_refused_lem None c e = let y : ◌≡◌ {A = ℕ} 0 1 = cc in omega arith
+not_refused_lem (Some r) c e = let y : ◌≡◌ {A = ℕ} 0 1 = cc in omega arith
 
 module _ {R : Type 0} (n : ℕ) (valid : List ℕ → Option R) (law : Strings n valid) where
   -- whatever answers a list of bytes with what its bytes hand out

@@ -1,6 +1,7 @@
 -- Nothing is lost at the boundary between two pieces of a stream, and nothing is found twice: a string that ends in a piece begins there or
 -- in the n-1 bytes in front of it, and those alone hold no whole string.
-use Rattle.cond.proofs.Kit.{◌++◌, ◌+◌, ◌-◌, ◌∙◌, ◌∷◌, ◌≡◌, ◌≤◌, ap, arith, drop, drop-append-le, length, length-append, List, none, Option, refl, some, suc, sym, zero, ℕ}
+use Rattle.std.specs.Prelude.{Option, None, Some}
+use Rattle.cond.proofs.Kit.{◌++◌, ◌+◌, ◌-◌, ◌∙◌, ◌∷◌, ◌≡◌, ◌≤◌, ap, arith, drop, drop-append-le, length, length-append, List, refl, suc, sym, zero, ℕ}
 use Rattle.stream.specs.Answer.{handed_out, records_of}
 use Rattle.stream.specs.Heard.{heard_all, heard_at, heard_from}
 use Rattle.stream.specs.Search.{search_from}
@@ -28,8 +29,8 @@ module _ {R : Type 0} (n : ℕ) (valid : List ℕ → Option R) where
           → records_of (heard_from n valid s (c + d) (k + 1)) ≡ records_of (heard_from n valid s c (k + 1)) ++ records_of (heard_from n valid s d (k + 1 + c))
           → records_of (handed_out o ∷ heard_from n valid s (c + d) (k + 1))
           ≡ records_of (handed_out o ∷ heard_from n valid s c (k + 1)) ++ records_of (heard_from n valid s d (k + 1 + c))
-      go none h = h
-      go (some r) h = ap (λ (l : List R). r ∷ l) h
+      go None h = h
+      go (Some r) h = ap (λ (l : List R). r ∷ l) h
 
   -- what comes later changes nothing
   stays : (s t : List ℕ) (c k : ℕ) → k + c ≤ length s + 1 → heard_from n valid (s ++ t) c k ≡ heard_from n valid s c k

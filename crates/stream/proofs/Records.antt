@@ -1,5 +1,6 @@
 -- The list of what the bytes hand out: its entries, and its records.
-use Rattle.cond.proofs.Kit.{◌+◌, ◌-◌, ◌<◌, ◌≡◌, ◌≤◌, ap, arith, drop, get_or, length, List, none, Option, refl, suc, zero, ℕ}
+use Rattle.std.specs.Prelude.{Option, None}
+use Rattle.cond.proofs.Kit.{◌+◌, ◌-◌, ◌<◌, ◌≡◌, ◌≤◌, ap, arith, drop, get_or, length, List, refl, suc, zero, ℕ}
 use Rattle.stream.specs.Answer.{answer_at, handed_out, nothing, records_of}
 use Rattle.stream.specs.Heard.{heard_all, heard_at, heard_from}
 use Rattle.stream.proofs.Heard.{later}
@@ -34,7 +35,7 @@ module _ {R : Type 0} (n : ℕ) (valid : List ℕ → Option R) where
 
   -- bytes that hand out nothing add no record
   pub skip :
-      (s : List ℕ) (e c k : ℕ) → ((i : ℕ) → i < e → heard_at n valid s (k + i) ≡ none)
+      (s : List ℕ) (e c k : ℕ) → ((i : ℕ) → i < e → heard_at n valid s (k + i) ≡ None)
       → records_of (heard_from n valid s c k) ≡ records_of (heard_from n valid s (c - e) (k + e))
   unfolding heard_from records_of
   skip s zero c k h = let z : c - 0 ≡ c = omega arith in let y : k + 0 ≡ k = omega arith in rw (z, y)
@@ -43,7 +44,7 @@ module _ {R : Type 0} (n : ℕ) (valid : List ℕ → Option R) where
       let z : suc c - suc e ≡ c - e = omega arith in
       let y : k + suc e ≡ k + 1 + e = omega arith in
       let first : k + 0 ≡ k = omega arith in
-      let none_first : heard_at n valid s k ≡ none = rw first at (h 0 (omega arith)) in
+      let none_first : heard_at n valid s k ≡ None = rw first at (h 0 (omega arith)) in
       rw (none_first, z, y)
       (skip s e c (k + 1) (λ i l.
       let x : k + 1 + i ≡ k + suc i = omega arith in

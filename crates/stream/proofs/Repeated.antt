@@ -1,5 +1,6 @@
 -- Repeated search finds the records that the bytes of the list hand out, in the same order.
-use Rattle.cond.proofs.Kit.{◌+◌, ◌-◌, ◌<◌, ◌∙◌, ◌∷◌, ◌≡◌, ◌≤◌, arith, drop, length, length-drop, List, none, Option, refl, some, suc, sym, zero, ℕ}
+use Rattle.std.specs.Prelude.{Option, None, Some}
+use Rattle.cond.proofs.Kit.{◌+◌, ◌-◌, ◌<◌, ◌∙◌, ◌∷◌, ◌≡◌, ◌≤◌, arith, drop, length, length-drop, List, refl, suc, sym, zero, ℕ}
 use Rattle.stream.specs.Answer.{records_of}
 use Rattle.stream.specs.Heard.{all_records, heard_all, heard_at, heard_from}
 use Rattle.stream.specs.Search.{first_among, first_from, go_on, search_from, search_times}
@@ -13,7 +14,7 @@ use Rattle.stream.proofs.Search.{Scanned, none_there, one_there, scanned}
 module _ {R : Type 0} (n : ℕ) (valid : List ℕ → Option R) where
   -- places where no valid string stands add no record
   skip_places :
-      (s : List ℕ) (p e c : ℕ) → ((i : ℕ) → i < e → valid (window n s (p + i)) ≡ none)
+      (s : List ℕ) (p e c : ℕ) → ((i : ℕ) → i < e → valid (window n s (p + i)) ≡ None)
       → records_of (heard_from n valid s c (p + n)) ≡ records_of (heard_from n valid s (c - e) (p + n + e))
   skip_places s p e c h =
       skip n valid s e c (p + n) (λ i l.
@@ -23,7 +24,7 @@ module _ {R : Type 0} (n : ℕ) (valid : List ℕ → Option R) where
   module _ (law : Strings n valid) where
     -- behind a valid string the next one ends n bytes further on at the earliest
     behind :
-        (s : List ℕ) (c k : ℕ) (r : R) → 0 < c → heard_at n valid s k ≡ some r
+        (s : List ℕ) (c k : ℕ) (r : R) → 0 < c → heard_at n valid s k ≡ Some r
         → records_of (heard_from n valid s c k) ≡ r ∷ records_of (heard_from n valid s (c - n) (k + n))
     unfolding heard_from records_of
     behind s zero k r l h = absurd (omega arith)
@@ -33,9 +34,9 @@ module _ {R : Type 0} (n : ℕ) (valid : List ℕ → Option R) where
         let y : k + n ≡ k + 1 + (n - 1) = omega arith in
         rw (h, z, y, skip n valid s (n - 1) c (k + 1) (λ i m. none_behind (heard_at n valid s (k + 1 + i)) i m refl))
       where
-        none_behind : (o : Option R) (i : ℕ) → i < n - 1 → heard_at n valid s (k + 1 + i) ≡ o → heard_at n valid s (k + 1 + i) ≡ none
-        none_behind none i m e = e
-        none_behind (some q) i m e =
+        none_behind : (o : Option R) (i : ℕ) → i < n - 1 → heard_at n valid s (k + 1 + i) ≡ o → heard_at n valid s (k + 1 + i) ≡ None
+        none_behind None i m e = e
+        none_behind (Some q) i m e =
             let x : k + 1 + i ≡ k + (1 + i) = omega arith in
             absurd (ends_apart n valid law s k (1 + i) r q (omega arith) (omega arith) h (rw x at e))
 

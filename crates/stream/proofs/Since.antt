@@ -1,5 +1,6 @@
 -- There is one distance since the last record: the record that ends a shorter one would stand among the bytes that handed out nothing.
-use Rattle.cond.proofs.Kit.{◌-◌, ◌<◌, ◌≡◌, arith, length, List, Option, ℕ}
+use Rattle.std.specs.Prelude.{Option}
+use Rattle.cond.proofs.Kit.{◌-◌, ◌<◌, ◌≡◌, arith, length, List, ℕ}
 use Rattle.stream.specs.Distance.{Since}
 use Rattle.stream.proofs.Heard.{heard_some}
 

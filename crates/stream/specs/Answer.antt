@@ -1,6 +1,5 @@
 -- What a listener answers to a byte: a record, nothing, or a refusal with the paper's number.
-use Rattle.std.specs.Prelude.{List, [], ◌∷◌, ℕ, ◌-◌, get_or}
-use Rattle.std.proofs.Math.Option.{Option, none, some}
+use Rattle.std.specs.Prelude.{List, [], ◌∷◌, ℕ, ◌-◌, get_or, Option, None, Some}
 
 pub data Answer (R : Type 0) : Type 0 where
   handed : R → Answer R
@@ -10,8 +9,8 @@ pub data Answer (R : Type 0) : Type 0 where
 module _ {R : Type 0} where
   -- "hands out the record .., else nothing"
   abbrev pub handed_out : Option R → Answer R
-  handed_out none = nothing
-  handed_out (some r) = handed r
+  handed_out None = nothing
+  handed_out (Some r) = handed r
 
   -- the answer to byte k, counted from 1
   abbrev pub answer_at : List (Answer R) → ℕ → Answer R

@@ -1,6 +1,5 @@
 -- The distance since the last record, and the listener's step over the kept bytes and the distance.
-use Rattle.std.specs.Prelude.{List, [], ◌≡◌, ℕ, ◌+◌, ◌-◌, ◌≤◌, ◌<◌, min, ltb, length}
-use Rattle.std.proofs.Math.Option.{Option, none, some}
+use Rattle.std.specs.Prelude.{List, [], ◌≡◌, ℕ, ◌+◌, ◌-◌, ◌≤◌, ◌<◌, min, ltb, length, Option, None, Some}
 use Rattle.cond.specs.Pick.{pick}
 use Rattle.stream.specs.Answer.{Answer, handed, nothing, refused}
 use Rattle.stream.specs.Heard.{heard_at}
@@ -18,8 +17,8 @@ fresh n = record { kept = []; distance = n }
 module _ {R : Type 0} where
   -- "Refusal 13 stands in place of such a record if the distance held before this byte is under n-1"
   abbrev pub unless_overlap : ℕ → ℕ → Option R → Answer R
-  unless_overlap n d none = nothing
-  unless_overlap n d (some r) = pick (ltb d (n - 1)) (refused 13) (handed r)
+  unless_overlap n d None = nothing
+  unless_overlap n d (Some r) = pick (ltb d (n - 1)) (refused 13) (handed r)
 
   -- "Handing out sets the distance to 0; any other byte adds one up to n."
   abbrev pub distance_after : ℕ → ℕ → Answer R → ℕ
@@ -40,9 +39,9 @@ module _ {R : Type 0} where
   pub record Since (n : ℕ) (valid : List ℕ → Option R) (s : List ℕ) (d : ℕ) : Type 0 where
     pub capped : d ≤ n
     -- the last d bytes handed out nothing
-    pub none_since : (i : ℕ) → i < d → i < length s → heard_at n valid s (length s - i) ≡ none
+    pub none_since : (i : ℕ) → i < d → i < length s → heard_at n valid s (length s - i) ≡ None
     -- the byte in front of them handed out a record, where d is below n
-    pub last_there : d < n → (r : R) × (heard_at n valid s (length s - d) ≡ some r)
+    pub last_there : d < n → (r : R) × (heard_at n valid s (length s - d) ≡ Some r)
 
 -- a state that refusal 11 does not name: no "more than" m "bytes kept", and no "distance over n"
 pub record Fits (m n : ℕ) (s : State) : Type 0 where

@@ -1,6 +1,5 @@
 -- What each byte of a list hands out: the record of the valid string that ends with it.
-use Rattle.std.specs.Prelude.{List, [], ◌∷◌, ℕ, zero, suc, ◌+◌, ◌-◌, leb, length}
-use Rattle.std.proofs.Math.Option.{Option, none}
+use Rattle.std.specs.Prelude.{List, [], ◌∷◌, ℕ, zero, suc, ◌+◌, ◌-◌, leb, length, Option, None}
 use Rattle.cond.specs.Pick.{pick}
 use Rattle.stream.specs.Answer.{Answer, handed_out, records_of}
 use Rattle.stream.specs.Window.{window}
@@ -9,7 +8,7 @@ module _ {R : Type 0} where
   -- "Byte k, counted from 1, hands out the record of bytes k-n+1 to k if k is at least n and they are a valid string, else
   -- nothing"
   unfoldable pub heard_at : ℕ → (List ℕ → Option R) → List ℕ → ℕ → Option R
-  heard_at n valid s k = pick (leb n k) (valid (window n s (k - n))) none
+  heard_at n valid s k = pick (leb n k) (valid (window n s (k - n))) None
 
   -- what c bytes hand out, byte k first
   unfoldable pub heard_from : ℕ → (List ℕ → Option R) → List ℕ → ℕ → ℕ → List (Answer R)

@@ -1,6 +1,5 @@
 -- Demand 3 over a form of n bytes: what a listener that is started afresh answers to a list of bytes. Bytes are counted from 1.
-use Rattle.std.specs.Prelude.{List, ◌++◌, ◌≡◌, ℕ, ◌+◌, ◌≤◌, ◌<◌, length, drop}
-use Rattle.std.proofs.Math.Option.{Option}
+use Rattle.std.specs.Prelude.{List, ◌++◌, ◌≡◌, ℕ, ◌+◌, ◌≤◌, ◌<◌, length, drop, Option}
 use Rattle.stream.specs.Answer.{Answer, answer_at, handed_out, nothing, records_of, refused}
 use Rattle.stream.specs.Heard.{all_records, heard_all, heard_at}
 use Rattle.stream.specs.Search.{search_from}

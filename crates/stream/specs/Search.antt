@@ -1,6 +1,5 @@
 -- Search: the first valid string at or after a start, and the search that goes on behind each string found.
-use Rattle.std.specs.Prelude.{List, [], ◌∷◌, ◌≡◌, ℕ, zero, suc, ◌+◌, ◌-◌, ◌≤◌, ◌<◌, length}
-use Rattle.std.proofs.Math.Option.{Option, none, some}
+use Rattle.std.specs.Prelude.{List, [], ◌∷◌, ◌≡◌, ℕ, zero, suc, ◌+◌, ◌-◌, ◌≤◌, ◌<◌, length, Option, None, Some}
 use Rattle.stream.specs.Window.{window}
 
 -- "the first place, its record", or none
@@ -11,8 +10,8 @@ pub data Found (R : Type 0) : Type 0 where
 module _ {R : Type 0} where
   -- this place where there is a record, else what is found further on
   abbrev pub place_or : Option R → ℕ → Found R → Found R
-  place_or none p further = further
-  place_or (some r) p further = found p r
+  place_or None p further = further
+  place_or (Some r) p further = found p r
 
   -- the first of c places, from place p on, where a valid string stands
   unfoldable pub first_among : ℕ → (List ℕ → Option R) → List ℕ → ℕ → ℕ → Found R
@@ -28,8 +27,8 @@ module _ {R : Type 0} where
   pub record FirstAt (n : ℕ) (valid : List ℕ → Option R) (s : List ℕ) (start p : ℕ) (r : R) : Type 0 where
     pub from_start : start ≤ p
     pub inside : p + n ≤ length s
-    pub there : valid (window n s p) ≡ some r
-    pub none_before : (i : ℕ) → start ≤ i → i < p → valid (window n s i) ≡ none
+    pub there : valid (window n s p) ≡ Some r
+    pub none_before : (i : ℕ) → start ≤ i → i < p → valid (window n s i) ≡ None
 
   -- the record found in front of those that are found behind its string
   abbrev pub go_on : Found R → (ℕ → List R) → List R

@@ -1,9 +1,9 @@
 -- The library's tables say what is read from each string; the minute of its record is computed.
+use Rattle.std.specs.Prelude.{Ok}
 use Rattle.cond.proofs.Kit.{[], ◌∙◌, ◌≡◌, ap, get_or, List, String, ℕ}
-use Rattle.record.specs.Answers.{read_number, read_record}
+use Rattle.record.specs.Answers.{number_in, read_record}
 use Rattle.record.specs.Record.{empty_record}
 use Rattle.record.specs.declared.Record.{Record}
-use Rattle.record.specs.declared.answer.Reading.TheVariants as reading
 use Rattle.record.proofs.Answers.{accepted_read}
 use Rattle.forms.specs.Case.{Case, answered, answered_all, reads}
 use Rattle.forms.specs.Forms.{read_form}
@@ -16,11 +16,11 @@ abbrev row : ℕ → List Case → Case
 row k cs = get_or cs k (reads "none" 0 [] 1 empty_record)
 
 -- the string of a row that is accepted tells what the row's record tells
-tells : {name : String} {form : ℕ} {s : List ℕ} {r : Record} → answered (reads name form s 0 r) ≡ reads name form s 0 r → minute_told form s ≡ minute_in r
+tells : {name : String} {form : ℕ} {s : List ℕ} {r : Record} → answered (reads name form s 0 r) ≡ reads name form s 0 r → minute_told form s ≡ Ok (minute_in r)
 tells {name} {form} {s} {r} h =
-    let number : read_number (read_form form s) ≡ 0 = cc in
+    let number : number_in (read_form form s) ≡ 0 = cc in
     let fields : read_record (read_form form s) ≡ r = cc in
-    ap minute_of (accepted_read (read_form form s) number ∙ ap reading.Read fields)
+    ap minute_of (accepted_read (read_form form s) number ∙ ap Ok fields)
 
 pub known_minutes : Known
 unfolding answered_all utc_minute

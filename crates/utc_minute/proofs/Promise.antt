@@ -1,11 +1,10 @@
 -- A number is told by an offset alone, and it is a remainder by 1,440. A RACAL string's record has no offset: by demand 2 a form's records
 -- have nothing but what the form carries.
-use Rattle.cond.proofs.Kit.{◌<◌, ◌≡◌, ap, arith, List, refl, sym, ℕ}
-use Rattle.record.specs.Answers.{read_number, read_record}
-use Rattle.record.specs.declared.Offset.{Offset}
-use Rattle.record.specs.declared.Offset.TheVariants as OffsetIs
-use Rattle.record.specs.declared.answer.Reading.{Reading}
-use Rattle.record.specs.declared.answer.Reading.TheVariants as reading
+use Rattle.std.specs.Prelude.{Option, None, Some, Result, Ok, Err, ℤ}
+use Rattle.record.specs.declared.Record.{Record}
+use Rattle.record.specs.declared.refusal.Refusal.{Refusal}
+use Rattle.cond.proofs.Kit.{◌*◌, ◌+◌, ◌<◌, ◌≡◌, ap, arith, List, refl, sym, ℕ}
+use Rattle.record.specs.Answers.{number_in, read_record}
 use Rattle.forms.specs.CarriedPart.{carried_part}
 use Rattle.forms.specs.Carries.{carries_of}
 use Rattle.forms.specs.Fields.Offset.{carried_offset}
@@ -14,23 +13,27 @@ use Rattle.forms.specs.Places.{has}
 use Rattle.forms.proofs.Demand2.{demand_2}
 use Rattle.utc_minute.specs.Minute.{minute_by, minute_of, utc_minute}
 use Rattle.utc_minute.specs.Promise.{Promise}
-use Rattle.utc_minute.specs.declared.Minute.TheVariants as minute
 
-by_offset : (local : ℕ) (o : Offset) (n : ℕ) → minute_by local o ≡ minute.Told n → (o ≡ OffsetIs.Absent → ⊥) × (n < 1440)
+by_offset : (local : ℕ) (o : Option ℤ) (n : ℕ) → minute_by local o ≡ Some n → (o ≡ None → ⊥) × (n < 1440)
 unfolding utc_minute
-by_offset local OffsetIs.Absent n h = absurd (let z : ◌≡◌ {A = ℕ} 0 1 = cc in omega arith)
-by_offset local (OffsetIs.Minutes z) n h =
+by_offset local None n h = absurd (let z : ◌≡◌ {A = ℕ} 0 1 = cc in omega arith)
+by_offset local (Some z) n h =
     let e : utc_minute local z ≡ n = cc in
     (λ o. let z : ◌≡◌ {A = ℕ} 0 1 = cc in omega arith, omega (arith, e))
 
--- a string that tells a number is accepted, and its offset was sent
-sent : (a : Reading) (n : ℕ) → minute_of a ≡ minute.Told n → (read_number a ≡ 0) × ((read_record a).offset ≡ OffsetIs.Absent → ⊥) × (n < 1440)
-sent (reading.Read r) n h =
-    let o = by_offset _ r.offset n h in
-    (refl, o.0, o.1)
-sent (reading.Refused why) n h = absurd (let z : ◌≡◌ {A = ℕ} 0 1 = cc in omega arith)
+-- the minute of an answer
+abbrev told_in : Result (Option ℕ) Refusal → Option ℕ
+told_in (Ok m) = m
+told_in (Err why) = None
 
-racal_absent : (s : List ℕ) → read_number (read_form 5 s) ≡ 0 → (read_record (read_form 5 s)).offset ≡ OffsetIs.Absent
+-- a string that tells a number is accepted, and its offset was sent
+sent : (a : Result Record Refusal) (n : ℕ) → minute_of a ≡ Ok (Some n) → (number_in a ≡ 0) × ((read_record a).offset ≡ None → ⊥) × (n < 1440)
+sent (Ok r) n h =
+    let o = by_offset (r.hour * 60 + r.minute) r.offset n (ap told_in h) in
+    (refl, o.0, o.1)
+sent (Err why) n h = absurd (let z : ◌≡◌ {A = ℕ} 0 1 = cc in omega arith)
+
+racal_absent : (s : List ℕ) → number_in (read_form 5 s) ≡ 0 → (read_record (read_form 5 s)).offset ≡ None
 unfolding carried_form form_kind_of carried_part carries_of has carried_offset
 racal_absent s h = sym (ap (λ r. r.offset) (demand_2.alone 5 s h))
 

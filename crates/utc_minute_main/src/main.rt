@@ -1,22 +1,22 @@
-// A program over the example: prints what some telegrams tell, a line for each. `rt run` runs it, and `rt ci` compares what it prints with the file stdout.
+//! A program over the example: prints what some telegrams tell, a line for each. `rt run` runs it, and `rt ci` compares what it prints with the file stdout.
 #![tactic(auto)]
 
 ghost use Rattle.std.specs.Prelude.{OnOk};
 ghost use Rattle.std.specs.Io.KnownBytes.{Appends};
 ghost use Rattle.utc_minute_main.specs.Line.{line_of};
 
+use record::refusal::Refusal;
 use std::io;
 use std::io::Write;
-use utc_minute::Minute;
 
-fn print<W: Write>(writer: &mut W, m: Minute) -> io::Result<()>
-    ensures { OnOk result (Appends (W.contents writer.old) (W.contents writer.new) (line_of m)) }
+fn print<W: Write>(writer: &mut W, minute: Result<Option<u32>, Refusal>) -> io::Result<()>
+    ensures { OnOk result (Appends (W.contents writer.old) (W.contents writer.new) (line_of minute)) }
 {
-    match m {
-        Minute::Told(n) => writeln!(writer, "{n}"),
-        Minute::Absent => writeln!(writer, "absent"),
-        Minute::Refused(why) => {
-            let number = why.number();
+    match minute {
+        Ok(Some(n)) => writeln!(writer, "{n}"),
+        Ok(None) => writeln!(writer, "absent"),
+        Err(why) => {
+            let number = u32::from(why);
             writeln!(writer, "refused {number}")
         }
     }

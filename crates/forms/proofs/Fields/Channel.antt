@@ -1,7 +1,6 @@
 -- The channel.
+use Rattle.std.specs.Prelude.{Option, None, Some, ℕ}
 use Rattle.cond.proofs.Kit.{◌<◌, ◌≡◌, arith, Bool, false, false≢true, leb-true, refl, true}
-use Rattle.record.specs.declared.Channel.{Channel}
-use Rattle.record.specs.declared.Channel.TheVariants as ChannelIs
 use Rattle.record.specs.Record.{channel_in_range}
 use Rattle.forms.specs.Fields.Channel.{decode_channel, encode_channel, has_channel, carried_channel}
 use Rattle.forms.specs.Slots.{Values, channel}
@@ -13,11 +12,11 @@ channel_encoded false v h = absurd (false≢true h)
 channel_encoded true v h = refl
 
 -- encoded and decoded again
-pub channel_decoded : (k : Bool) (x : Channel) (v : Values) → has_channel k x ≡ true → (k ≡ true → v channel ≡ encode_channel x) → decode_channel k v ≡ carried_channel k x
+pub channel_decoded : (k : Bool) (x : Option ℕ) (v : Values) → has_channel k x ≡ true → (k ≡ true → v channel ≡ encode_channel x) → decode_channel k v ≡ carried_channel k x
 unfolding decode_channel carried_channel
 channel_decoded false x v h p = refl
-channel_decoded true ChannelIs.Absent v h p = absurd (false≢true h)
-channel_decoded true (ChannelIs.Number n) v h p = simp (p refl)
+channel_decoded true None v h p = absurd (false≢true h)
+channel_decoded true (Some n) v h p = simp (p refl)
 
 -- what is decoded is there and is carried
 pub channel_carried : (k : Bool) (v : Values) → (has_channel k (decode_channel k v) ≡ true) × (carried_channel k (decode_channel k v) ≡ decode_channel k v)
@@ -27,12 +26,12 @@ channel_carried true v = (refl, refl)
 
 -- ranges
 
-pub channel_lt : (x : Channel) → channel_in_range x ≡ true → encode_channel x < 2
+pub channel_lt : (x : Option ℕ) → channel_in_range x ≡ true → encode_channel x < 2
 unfolding channel_in_range
-channel_lt ChannelIs.Absent e = omega arith
-channel_lt (ChannelIs.Number n) e = omega (arith, leb-true n 1 e)
+channel_lt None e = omega arith
+channel_lt (Some n) e = omega (arith, leb-true n 1 e)
 
-pub channel_stays : (k : Bool) (x : Channel) → channel_in_range x ≡ true → channel_in_range (carried_channel k x) ≡ true
+pub channel_stays : (k : Bool) (x : Option ℕ) → channel_in_range x ≡ true → channel_in_range (carried_channel k x) ≡ true
 unfolding channel_in_range carried_channel
 channel_stays false x h = refl
 channel_stays true x h = h

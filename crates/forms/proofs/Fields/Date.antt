@@ -1,4 +1,5 @@
 -- The date: by year, month and day, by year and day of year, or by day of year; and the weekday's range.
+use Rattle.std.specs.Prelude.{Option, None, Some}
 use Rattle.cond.proofs.Kit.{◌<◌, ◌∙◌, ◌≡◌, ap, arith, Bool, false, false≢true, le-leb, leb, leb-true, refl, true, ℕ}
 use Rattle.cond.proofs.Tests.{both}
 use Rattle.calendar.specs.Answers.{date_of_day}
@@ -31,15 +32,15 @@ full_slots ps c m =
 
 -- decoded and encoded again
 
-year_on : (y : ℕ) (q : MonthDay) → encode_year (date_on y q) ≡ y
-year_on y (MonthDay.On m d) = refl
-year_on y MonthDay.NoSuchDate = refl
+year_on : (y : ℕ) (q : Option MonthDay) → encode_year (date_on y q) ≡ y
+year_on y (Some d) = refl
+year_on y None = refl
 
 -- a date found by its day of year is on that day
-ordinal_on : (y n : ℕ) (q : MonthDay) → date_of_day y n ≡ q → date_in_range (date_on y q) ≡ true → encode_ordinal (date_on y q) ≡ n
+ordinal_on : (y n : ℕ) (q : Option MonthDay) → date_of_day y n ≡ q → date_in_range (date_on y q) ≡ true → encode_ordinal (date_on y q) ≡ n
 unfolding date_in_range
-ordinal_on y n (MonthDay.On m d) e h = (found_day y n m d e).1
-ordinal_on y n MonthDay.NoSuchDate e h = absurd (false≢true (unfold is_date in h))
+ordinal_on y n (Some d) e h = (found_day y n d.month d.day e).1
+ordinal_on y n None e h = absurd (false≢true (unfold is_date in h))
 
 pub date_encoded : (k : DateKind) (v : Values) (r : Record) → r.date ≡ decode_date k v → date_in_range (decode_date k v) ≡ true
     → Each (λ (f : Slot). encode r f ≡ v f) (date_slots k)
@@ -54,22 +55,22 @@ date_encoded ordinal_date v r e g = ap encode_ordinal e and none
 
 -- encoded and decoded again
 
-full_again : (x : Date) → has_date full_date x ≡ true → DateIs.Full (encode_year x) (encode_month x) (encode_day x) ≡ x
-full_again DateIs.Absent h = absurd (false≢true h)
-full_again (DateIs.Full y m d) h = refl
-full_again (DateIs.DayOfYear n) h = absurd (false≢true h)
+full_again : (x : Option Date) → has_date full_date x ≡ true → Some (DateIs.Full (encode_year x) (encode_month x) (encode_day x)) ≡ x
+full_again None h = absurd (false≢true h)
+full_again (Some (DateIs.Full y m d)) h = refl
+full_again (Some (DateIs.DayOfYear n)) h = absurd (false≢true h)
 
-found_again : (x : Date) → has_date year_and_day x ≡ true → date_in_range x ≡ true → date_on (encode_year x) (date_of_day (encode_year x) (encode_ordinal x)) ≡ x
+found_again : (x : Option Date) → has_date year_and_day x ≡ true → date_in_range x ≡ true → date_on (encode_year x) (date_of_day (encode_year x) (encode_ordinal x)) ≡ x
 unfolding date_in_range
-found_again DateIs.Absent h g = absurd (false≢true h)
-found_again (DateIs.Full y m d) h g = rw (day_found y m d g)
-found_again (DateIs.DayOfYear n) h g = absurd (false≢true h)
+found_again None h g = absurd (false≢true h)
+found_again (Some (DateIs.Full y m d)) h g = rw (day_found y m d g)
+found_again (Some (DateIs.DayOfYear n)) h g = absurd (false≢true h)
 
-ordinal_again : (x : Date) → has_date ordinal_date x ≡ true → DateIs.DayOfYear (encode_ordinal x) ≡ carried_date ordinal_date x
+ordinal_again : (x : Option Date) → has_date ordinal_date x ≡ true → Some (DateIs.DayOfYear (encode_ordinal x)) ≡ carried_date ordinal_date x
 unfolding carried_date
-ordinal_again DateIs.Absent h = absurd (false≢true h)
-ordinal_again (DateIs.Full y m d) h = refl
-ordinal_again (DateIs.DayOfYear n) h = refl
+ordinal_again None h = absurd (false≢true h)
+ordinal_again (Some (DateIs.Full y m d)) h = refl
+ordinal_again (Some (DateIs.DayOfYear n)) h = refl
 
 pub date_decoded : (k : DateKind) (r : Record) (v : Values) → has_date k r.date ≡ true → date_in_range r.date ≡ true
     → ((f : Slot) → among f of_date ≡ true → among f (date_slots k) ≡ true → v f ≡ encode r f) → decode_date k v ≡ carried_date k r.date
@@ -81,10 +82,10 @@ date_decoded ordinal_date r v h g e = rw (e ordinal refl refl) (ordinal_again r.
 
 -- what is decoded is there and is carried
 
-on_carried : (y : ℕ) (q : MonthDay) → (has_date year_and_day (date_on y q) ≡ true) × (carried_date year_and_day (date_on y q) ≡ date_on y q)
+on_carried : (y : ℕ) (q : Option MonthDay) → (has_date year_and_day (date_on y q) ≡ true) × (carried_date year_and_day (date_on y q) ≡ date_on y q)
 unfolding carried_date
-on_carried y (MonthDay.On m d) = (refl, refl)
-on_carried y MonthDay.NoSuchDate = (refl, refl)
+on_carried y (Some d) = (refl, refl)
+on_carried y None = (refl, refl)
 
 pub date_carried : (k : DateKind) (v : Values) → (has_date k (decode_date k v) ≡ true) × (carried_date k (decode_date k v) ≡ decode_date k v)
 unfolding decode_date carried_date
@@ -95,13 +96,13 @@ date_carried ordinal_date v = (refl, refl)
 
 -- ranges
 
-date_lt : (x : Date) → date_in_range x ≡ true → (encode_year x < 100) × (encode_month x < 13) × (encode_day x < 32) × (encode_ordinal x < 367)
+date_lt : (x : Option Date) → date_in_range x ≡ true → (encode_year x < 100) × (encode_month x < 13) × (encode_day x < 32) × (encode_ordinal x < 367)
 unfolding date_in_range
-date_lt DateIs.Absent e = omega arith
-date_lt (DateIs.Full y m d) e =
+date_lt None e = omega arith
+date_lt (Some (DateIs.Full y m d)) e =
     let c = date_range y m d e in
     omega (arith, day_lt y m d c, ordinal_range y m d c)
-date_lt (DateIs.DayOfYear n) e = omega (arith, leb-true n 366 (both (leb 1 n) (leb n 366) e).1)
+date_lt (Some (DateIs.DayOfYear n)) e = omega (arith, leb-true n 366 (both (leb 1 n) (leb n 366) e).1)
 
 pub date_lts : (r : Record) → date_in_range r.date ≡ true → Each (λ (f : Slot). encode r f < bound f) of_date
 unfolding bound
@@ -109,16 +110,16 @@ date_lts r h =
     let t = date_lt r.date h in
     t.0 and t.1 and t.2 and t.3 and none
 
-pub date_stays : (k : DateKind) (x : Date) → date_in_range x ≡ true → date_in_range (carried_date k x) ≡ true
+pub date_stays : (k : DateKind) (x : Option Date) → date_in_range x ≡ true → date_in_range (carried_date k x) ≡ true
 unfolding date_in_range carried_date
 date_stays no_date x h = refl
 date_stays full_date x h = h
 date_stays year_and_day x h = h
-date_stays ordinal_date DateIs.Absent h = refl
-date_stays ordinal_date (DateIs.Full y m d) h =
+date_stays ordinal_date None h = refl
+date_stays ordinal_date (Some (DateIs.Full y m d)) h =
     let c = ordinal_range y m d (date_range y m d h) in
     simp (le-leb 1 _ c.0, le-leb _ 366 c.1)
-date_stays ordinal_date (DateIs.DayOfYear n) h = h
+date_stays ordinal_date (Some (DateIs.DayOfYear n)) h = h
 
 pub weekday_holds : (k : Bool) (n y m d : ℕ) → (k ≡ true → n ≡ weekday_of y m d) → weekday_in_range k n ≡ true
 unfolding weekday_in_range

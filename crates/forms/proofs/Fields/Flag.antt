@@ -1,10 +1,9 @@
 -- The yes or no fields: with a letter of their own, in pairs, or by the quality.
+use Rattle.std.specs.Prelude.{Option, None, Some}
 use Rattle.cond.proofs.Kit.{◌*◌, ◌+◌, ◌<◌, ◌∙◌, ◌≡◌, ap, arith, Bool, eqb, eqb-true, false, false≢true, lit<, refl, suc, true, zero, ℕ, ⊎_elim}
 use Rattle.cond.specs.Pick.{one_if, pick}
 use Rattle.cond.proofs.Tests.{either}
 use Rattle.record.specs.Record.{is_yes}
-use Rattle.record.specs.declared.Flag.{Flag}
-use Rattle.record.specs.declared.Flag.TheVariants as FlagIs
 use Rattle.forms.specs.Fields.Flag.{FlagKind, by_quality, first_kind, first_of_two, decode_flag, has_flag, is_carried, carried_flag, no_flag, own_kind, own_letter}
 use Rattle.forms.specs.Fields.Flag.{quality_in_range, second_kind, second_of_two, sync_kind, yes_no}
 
@@ -13,8 +12,8 @@ abbrev pub pair_of : Bool → Bool → ℕ
 pair_of a b = one_if a * 2 + one_if b
 
 -- a shared letter's answer
-abbrev answer : Bool → Flag
-answer b = pick b FlagIs.Yes FlagIs.No
+abbrev answer : Bool → Option Bool
+answer b = Some b
 
 -- decoded and encoded again
 
@@ -47,17 +46,17 @@ quality_encoded k own n e h =
 
 -- encoded and decoded again
 
-letter_decoded : (x : Flag) (n : ℕ) → has_flag true x ≡ true → n ≡ one_if (is_yes x) → yes_no n ≡ x
-letter_decoded FlagIs.Absent n h p = absurd (false≢true h)
-letter_decoded FlagIs.No n h p = simp p
-letter_decoded FlagIs.Yes n h p = simp p
+letter_decoded : (x : Option Bool) (n : ℕ) → has_flag true x ≡ true → n ≡ one_if (is_yes x) → yes_no n ≡ x
+letter_decoded None n h p = absurd (false≢true h)
+letter_decoded (Some false) n h p = simp p
+letter_decoded (Some true) n h p = simp p
 
-answer_decoded : (x : Flag) (b : Bool) → has_flag true x ≡ true → b ≡ is_yes x → answer b ≡ x
-answer_decoded FlagIs.Absent b h e = absurd (false≢true h)
-answer_decoded FlagIs.No b h e = rw e refl
-answer_decoded FlagIs.Yes b h e = rw e refl
+answer_decoded : (x : Option Bool) (b : Bool) → has_flag true x ≡ true → b ≡ is_yes x → answer b ≡ x
+answer_decoded None b h e = absurd (false≢true h)
+answer_decoded (Some false) b h e = rw e refl
+answer_decoded (Some true) b h e = rw e refl
 
-pub own_decoded : (b : Bool) (x : Flag) (own shared : ℕ) → has_flag (is_carried (own_kind b)) x ≡ true → (b ≡ true → own ≡ one_if (is_yes x))
+pub own_decoded : (b : Bool) (x : Option Bool) (own shared : ℕ) → has_flag (is_carried (own_kind b)) x ≡ true → (b ≡ true → own ≡ one_if (is_yes x))
     → decode_flag (own_kind b) own shared ≡ carried_flag (is_carried (own_kind b)) x
 unfolding decode_flag carried_flag
 own_decoded true x own shared h p = letter_decoded x own h (p refl)
@@ -70,13 +69,13 @@ pairs true false h = (refl, refl)
 pairs true true h = absurd (omega (arith, h))
 
 -- a letter that two fields share, or the field's own
-shared_decoded : (k : FlagKind) (a b : Bool) (x : Flag) (own shared : ℕ) → has_flag (is_carried (pick a k (own_kind b))) x ≡ true
+shared_decoded : (k : FlagKind) (a b : Bool) (x : Option Bool) (own shared : ℕ) → has_flag (is_carried (pick a k (own_kind b))) x ≡ true
     → (a ≡ true → has_flag (is_carried k) x ≡ true → decode_flag k own shared ≡ carried_flag (is_carried k) x) → (b ≡ true → own ≡ one_if (is_yes x))
     → decode_flag (pick a k (own_kind b)) own shared ≡ carried_flag (is_carried (pick a k (own_kind b))) x
 shared_decoded k true b x own shared h p q = p refl h
 shared_decoded k false b x own shared h p q = own_decoded b x own shared h q
 
-module _ (a : Bool) (x y : Flag) (shared : ℕ) (l : a ≡ true → pair_of (is_yes x) (is_yes y) < 3) (e : a ≡ true → shared ≡ pair_of (is_yes x) (is_yes y)) where
+module _ (a : Bool) (x y : Option Bool) (shared : ℕ) (l : a ≡ true → pair_of (is_yes x) (is_yes y) < 3) (e : a ≡ true → shared ≡ pair_of (is_yes x) (is_yes y)) where
   pub first_decoded : (b : Bool) (own : ℕ) → has_flag (is_carried (first_kind a b)) x ≡ true → (b ≡ true → own ≡ one_if (is_yes x))
       → decode_flag (first_kind a b) own shared ≡ carried_flag (is_carried (first_kind a b)) x
   unfolding decode_flag carried_flag
@@ -95,7 +94,7 @@ quality_yes : (b : Bool) → eqb (pick b 0 15) 0 ≡ b
 quality_yes false = refl
 quality_yes true = refl
 
-pub sync_decoded : (a b : Bool) (x : Flag) (own shared : ℕ) → has_flag (is_carried (sync_kind a b)) x ≡ true → (a ≡ true → own ≡ one_if (is_yes x))
+pub sync_decoded : (a b : Bool) (x : Option Bool) (own shared : ℕ) → has_flag (is_carried (sync_kind a b)) x ≡ true → (a ≡ true → own ≡ one_if (is_yes x))
     → (b ≡ true → shared ≡ pick (is_yes x) 0 15) → decode_flag (sync_kind a b) own shared ≡ carried_flag (is_carried (sync_kind a b)) x
 unfolding decode_flag carried_flag
 sync_decoded true b x own shared h p q = letter_decoded x own h (p refl)

@@ -1,4 +1,5 @@
 -- The fraction: thousandths, ten-millionths or hundredths, each of them a number of its own slot.
+use Rattle.std.specs.Prelude.{Option, None, Some}
 use Rattle.cond.proofs.Kit.{◌<◌, ◌≡◌, ap, arith, Bool, false≢true, ltb-true, refl, true}
 use Rattle.record.specs.declared.Fraction.{Fraction}
 use Rattle.record.specs.declared.Fraction.TheVariants as FractionIs
@@ -27,23 +28,23 @@ fraction_encoded hundredths v r e = ap encode_hundredths e and none
 
 -- encoded and decoded again
 
-thousandths_again : (x : Fraction) → has_fraction thousandths x ≡ true → FractionIs.Thousandths (encode_thousandths x) ≡ x
-thousandths_again FractionIs.Absent h = absurd (false≢true h)
-thousandths_again (FractionIs.Thousandths n) h = refl
-thousandths_again (FractionIs.TenMillionths n) h = absurd (false≢true h)
-thousandths_again (FractionIs.Hundredths n) h = absurd (false≢true h)
+thousandths_again : (x : Option Fraction) → has_fraction thousandths x ≡ true → Some (FractionIs.Thousandths (encode_thousandths x)) ≡ x
+thousandths_again None h = absurd (false≢true h)
+thousandths_again (Some (FractionIs.Thousandths n)) h = refl
+thousandths_again (Some (FractionIs.TenMillionths n)) h = absurd (false≢true h)
+thousandths_again (Some (FractionIs.Hundredths n)) h = absurd (false≢true h)
 
-ten_millionths_again : (x : Fraction) → has_fraction ten_millionths x ≡ true → FractionIs.TenMillionths (encode_ten_millionths x) ≡ x
-ten_millionths_again FractionIs.Absent h = absurd (false≢true h)
-ten_millionths_again (FractionIs.Thousandths n) h = absurd (false≢true h)
-ten_millionths_again (FractionIs.TenMillionths n) h = refl
-ten_millionths_again (FractionIs.Hundredths n) h = absurd (false≢true h)
+ten_millionths_again : (x : Option Fraction) → has_fraction ten_millionths x ≡ true → Some (FractionIs.TenMillionths (encode_ten_millionths x)) ≡ x
+ten_millionths_again None h = absurd (false≢true h)
+ten_millionths_again (Some (FractionIs.Thousandths n)) h = absurd (false≢true h)
+ten_millionths_again (Some (FractionIs.TenMillionths n)) h = refl
+ten_millionths_again (Some (FractionIs.Hundredths n)) h = absurd (false≢true h)
 
-hundredths_again : (x : Fraction) → has_fraction hundredths x ≡ true → FractionIs.Hundredths (encode_hundredths x) ≡ x
-hundredths_again FractionIs.Absent h = absurd (false≢true h)
-hundredths_again (FractionIs.Thousandths n) h = absurd (false≢true h)
-hundredths_again (FractionIs.TenMillionths n) h = absurd (false≢true h)
-hundredths_again (FractionIs.Hundredths n) h = refl
+hundredths_again : (x : Option Fraction) → has_fraction hundredths x ≡ true → Some (FractionIs.Hundredths (encode_hundredths x)) ≡ x
+hundredths_again None h = absurd (false≢true h)
+hundredths_again (Some (FractionIs.Thousandths n)) h = absurd (false≢true h)
+hundredths_again (Some (FractionIs.TenMillionths n)) h = absurd (false≢true h)
+hundredths_again (Some (FractionIs.Hundredths n)) h = refl
 
 pub fraction_decoded : (k : FractionKind) (r : Record) (v : Values) → has_fraction k r.fraction ≡ true
     → ((f : Slot) → among f of_fraction ≡ true → among f (fraction_slots k) ≡ true → v f ≡ encode r f) → decode_fraction k v ≡ carried_fraction k r.fraction
@@ -63,12 +64,12 @@ fraction_carried hundredths v = (refl, refl)
 
 -- ranges
 
-fraction_lt : (x : Fraction) → fraction_in_range x ≡ true → (encode_thousandths x < 1000) × (encode_ten_millionths x < 10000000) × (encode_hundredths x < 100)
+fraction_lt : (x : Option Fraction) → fraction_in_range x ≡ true → (encode_thousandths x < 1000) × (encode_ten_millionths x < 10000000) × (encode_hundredths x < 100)
 unfolding fraction_in_range
-fraction_lt FractionIs.Absent e = omega arith
-fraction_lt (FractionIs.Thousandths n) e = omega (arith, ltb-true n 1000 e)
-fraction_lt (FractionIs.TenMillionths n) e = omega (arith, ltb-true n 10000000 e)
-fraction_lt (FractionIs.Hundredths n) e = omega (arith, ltb-true n 100 e)
+fraction_lt None e = omega arith
+fraction_lt (Some (FractionIs.Thousandths n)) e = omega (arith, ltb-true n 1000 e)
+fraction_lt (Some (FractionIs.TenMillionths n)) e = omega (arith, ltb-true n 10000000 e)
+fraction_lt (Some (FractionIs.Hundredths n)) e = omega (arith, ltb-true n 100 e)
 
 pub fraction_lts : (r : Record) → fraction_in_range r.fraction ≡ true → Each (λ (f : Slot). encode r f < bound f) of_fraction
 unfolding bound
@@ -76,7 +77,7 @@ fraction_lts r h =
     let t = fraction_lt r.fraction h in
     t.0 and t.1 and t.2 and none
 
-pub fraction_stays : (k : FractionKind) (x : Fraction) → fraction_in_range x ≡ true → fraction_in_range (carried_fraction k x) ≡ true
+pub fraction_stays : (k : FractionKind) (x : Option Fraction) → fraction_in_range x ≡ true → fraction_in_range (carried_fraction k x) ≡ true
 unfolding fraction_in_range carried_fraction
 fraction_stays no_fraction x h = refl
 fraction_stays thousandths x h = h

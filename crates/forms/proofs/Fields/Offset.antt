@@ -1,12 +1,11 @@
 -- The offset: hours with minutes, or with a half hour, and a sign; what is told under a rule is the offset or its opposite, of the same minutes.
+use Rattle.std.specs.Prelude.{Option, None, Some, ℤ}
 use Rattle.cond.proofs.Kit.{◌%◌, ◌*◌, ◌/◌, ◌<◌, ◌∙◌, ◌≡◌, ◌≤◌, ap, arith, Bool, digits_div, digits_mod, eqb, eqb-true, false, false≢true, leb-true, nat_abs, refl, suc, sym, true, zero, ℕ}
 use lib.IntN.{neg_ℤ-neg_ℤ}
 use Rattle.cond.specs.Pick.{pick}
 use Rattle.cond.proofs.Tests.{either_way, pick_le}
 use Rattle.record.specs.Record.{offset_in_range}
 use Rattle.record.specs.Sign.{is_negative}
-use Rattle.record.specs.declared.Offset.{Offset}
-use Rattle.record.specs.declared.Offset.TheVariants as OffsetIs
 use Rattle.record.specs.declared.Record.{Record}
 use Rattle.record.specs.declared.sign.SignRule.{SignRule}
 use Rattle.record.specs.declared.sign.SignRule.TheVariants.{OneAbove, OneBelow}
@@ -29,23 +28,23 @@ offset_whole ps = agrees of_offset (offset_slots (offset_kind ps)) (has ps)
 
 -- what is told under a rule
 
-pub opposite_minutes : (o : Offset) → encode_minutes (opposite o) ≡ encode_minutes o
-opposite_minutes OffsetIs.Absent = refl
-opposite_minutes (OffsetIs.Minutes z) = nat_abs_opposite z
+pub opposite_minutes : (o : Option ℤ) → encode_minutes (opposite o) ≡ encode_minutes o
+opposite_minutes None = refl
+opposite_minutes (Some z) = nat_abs_opposite z
 
-told_minutes : (x : SignRule) (o : Offset) → encode_minutes (told_by x o) ≡ encode_minutes o
+told_minutes : (x : SignRule) (o : Option ℤ) → encode_minutes (told_by x o) ≡ encode_minutes o
 told_minutes OneBelow o = refl
 told_minutes OneAbove o = opposite_minutes o
 
-told_again : (x : SignRule) (o : Offset) → told_by x (told_by x o) ≡ o
+told_again : (x : SignRule) (o : Option ℤ) → told_by x (told_by x o) ≡ o
 told_again OneBelow o = refl
-told_again OneAbove OffsetIs.Absent = refl
-told_again OneAbove (OffsetIs.Minutes z) = ap OffsetIs.Minutes (neg_ℤ-neg_ℤ z)
+told_again OneAbove None = refl
+told_again OneAbove (Some z) = ap Some (neg_ℤ-neg_ℤ z)
 
-told_there : (x : SignRule) (o : Offset) → has_offset true (told_by x o) ≡ has_offset true o
+told_there : (x : SignRule) (o : Option ℤ) → has_offset true (told_by x o) ≡ has_offset true o
 told_there OneBelow o = refl
-told_there OneAbove OffsetIs.Absent = refl
-told_there OneAbove (OffsetIs.Minutes z) = refl
+told_there OneAbove None = refl
+told_there OneAbove (Some z) = refl
 
 -- the slot of its sign
 sign_among : (x : SignRule) → (among (sign_slot x) of_offset ≡ true) × (among (sign_slot x) (offset_slots (in_half_hours x)) ≡ true) × (most (sign_slot x) ≡ 2)
@@ -95,10 +94,10 @@ half_hours n h e l =
     either_way (eqb n 0) (λ p. omega (arith, eqb-true n 0 p, simp p at e))
     (λ p. either_way (eqb n 30) (λ q. omega (arith, eqb-true n 30 q, simp (p, q) at e)) (λ q. absurd (omega (arith, simp (p, q) at e))))
 
-minutes_again : (x : Offset) (sign n : ℕ) → has_offset true x ≡ true → sign ≡ encode_minus x → n ≡ encode_minutes x → decode_offset true sign n ≡ x
+minutes_again : (x : Option ℤ) (sign n : ℕ) → has_offset true x ≡ true → sign ≡ encode_minus x → n ≡ encode_minutes x → decode_offset true sign n ≡ x
 unfolding decode_offset
-minutes_again OffsetIs.Absent sign n h p q = absurd (false≢true h)
-minutes_again (OffsetIs.Minutes z) sign n h p q = ap OffsetIs.Minutes (signed_decoded z sign n p q)
+minutes_again None sign n h p q = absurd (false≢true h)
+minutes_again (Some z) sign n h p q = ap Some (signed_decoded z sign n p q)
 
 module _ (r : Record) (v : Values) where
   -- what the values of the record's own offset are
@@ -144,10 +143,10 @@ offset_carried x true a n = (told_there x _, refl)
 
 -- ranges
 
-offset_lt : (x : Offset) → offset_in_range x ≡ true → encode_minutes x ≤ 840
+offset_lt : (x : Option ℤ) → offset_in_range x ≡ true → encode_minutes x ≤ 840
 unfolding offset_in_range
-offset_lt OffsetIs.Absent e = omega arith
-offset_lt (OffsetIs.Minutes z) e = leb-true (nat_abs z) 840 e
+offset_lt None e = omega arith
+offset_lt (Some z) e = leb-true (nat_abs z) 840 e
 
 half_lt : (n : ℕ) → half_hour_of n < 3
 unfolding half_hour_of
@@ -161,7 +160,7 @@ offset_lts r h =
     let minutes : encode_minutes r.offset % 60 < 60 = omega arith in
     one_lt (is_negative (minutes_of r.offset)) and one_lt (is_negative (minutes_of (opposite r.offset))) and hours and minutes and half_lt (encode_minutes r.offset % 60) and none
 
-pub offset_stays : (k : Bool) (x : Offset) → offset_in_range x ≡ true → offset_in_range (carried_offset k x) ≡ true
+pub offset_stays : (k : Bool) (x : Option ℤ) → offset_in_range x ≡ true → offset_in_range (carried_offset k x) ≡ true
 unfolding offset_in_range carried_offset
 offset_stays false x h = refl
 offset_stays true x h = h

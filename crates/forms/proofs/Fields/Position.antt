@@ -1,4 +1,5 @@
 -- The position: two signed numbers, each by its degrees, what stands behind them and a letter, and in degrees the altitude.
+use Rattle.std.specs.Prelude.{Option, None, Some}
 use Rattle.cond.proofs.Kit.{◌%◌, ◌*◌, ◌+◌, ◌/◌, ◌<◌, ◌∙◌, ◌≡◌, ap, arith, Bool, digits_div, digits_mod, false, false≢true, ltb, ltb-true, nat_abs, refl, true, ℕ, ℤ}
 use Rattle.cond.proofs.Tests.{both, both_hold}
 use Rattle.record.specs.declared.Position.{Position}
@@ -70,15 +71,15 @@ degrees_decoded n a b p q = omega arith
 arc_decoded : (n d m h : ℕ) → d ≡ n / 6000 → m ≡ n % 6000 / 100 → h ≡ n % 100 → in_hundredths d m h ≡ n
 arc_decoded n d m h p q e = omega arith
 
-degrees_again : (x : Position) (a b : ℤ) (c : ℕ) → has_position degrees x ≡ true → a ≡ latitude_of x → b ≡ longitude_of x → c ≡ encode_altitude x → PositionIs.Degrees a b c ≡ x
-degrees_again PositionIs.Absent a b c h p q s = absurd (false≢true h)
-degrees_again (PositionIs.Degrees lat lon alt) a b c h p q s = rw (p, q, s) refl
-degrees_again (PositionIs.Minutes lat lon) a b c h p q s = absurd (false≢true h)
+degrees_again : (x : Option Position) (a b : ℤ) (c : ℕ) → has_position degrees x ≡ true → a ≡ latitude_of x → b ≡ longitude_of x → c ≡ encode_altitude x → Some (PositionIs.Degrees a b c) ≡ x
+degrees_again None a b c h p q s = absurd (false≢true h)
+degrees_again (Some (PositionIs.Degrees lat lon alt)) a b c h p q s = rw (p, q, s) refl
+degrees_again (Some (PositionIs.Minutes lat lon)) a b c h p q s = absurd (false≢true h)
 
-minutes_again : (x : Position) (a b : ℤ) → has_position minutes x ≡ true → a ≡ latitude_of x → b ≡ longitude_of x → PositionIs.Minutes a b ≡ x
-minutes_again PositionIs.Absent a b h p q = absurd (false≢true h)
-minutes_again (PositionIs.Degrees lat lon alt) a b h p q = absurd (false≢true h)
-minutes_again (PositionIs.Minutes lat lon) a b h p q = rw (p, q) refl
+minutes_again : (x : Option Position) (a b : ℤ) → has_position minutes x ≡ true → a ≡ latitude_of x → b ≡ longitude_of x → Some (PositionIs.Minutes a b) ≡ x
+minutes_again None a b h p q = absurd (false≢true h)
+minutes_again (Some (PositionIs.Degrees lat lon alt)) a b h p q = absurd (false≢true h)
+minutes_again (Some (PositionIs.Minutes lat lon)) a b h p q = rw (p, q) refl
 
 module _ (r : Record) (v : Values) where
   -- what the values of the record's own position are

@@ -1,4 +1,5 @@
 -- The ranges of a position: what a good record tells in each slot of either kind.
+use Rattle.std.specs.Prelude.{Option, None, Some}
 use Rattle.cond.proofs.Kit.{◌%◌, ◌/◌, ◌<◌, ◌≡◌, ◌≤◌, arith, Bool, false, leb, leb-true, nat_abs, refl, true, ℕ}
 use Rattle.cond.specs.Pick.{pick}
 use Rattle.cond.proofs.Tests.{both}
@@ -20,18 +21,18 @@ arc_lt true n x e = omega arith
 arc_lt false n x e = omega arith
 
 -- a position of one kind tells nothing in the other
-record Within (x : Position) : Type 0 where
+record Within (x : Option Position) : Type 0 where
   pub latitude : encode_latitude degrees x ≤ 900000
   pub longitude : encode_longitude degrees x ≤ 1800000
   pub high : encode_altitude x < 10000
   pub arc_latitude : encode_latitude minutes x ≤ 540000
   pub arc_longitude : encode_longitude minutes x ≤ 1080000
 
-within : (x : Position) → position_in_range x ≡ true → Within x
+within : (x : Option Position) → position_in_range x ≡ true → Within x
 unfolding position_in_range
-within PositionIs.Absent e =
+within None e =
     record { latitude = omega arith; longitude = omega arith; high = omega arith; arc_latitude = omega arith; arc_longitude = omega arith }
-within (PositionIs.Degrees lat lon alt) e =
+within (Some (PositionIs.Degrees lat lon alt)) e =
     let a = both (leb (nat_abs lat) 900000) _ e in
     let b = both (leb (nat_abs lon) 1800000) (leb alt 9999) a.1 in
     record {
@@ -41,7 +42,7 @@ within (PositionIs.Degrees lat lon alt) e =
       arc_latitude = omega arith;
       arc_longitude = omega arith;
     }
-within (PositionIs.Minutes lat lon) e =
+within (Some (PositionIs.Minutes lat lon)) e =
     let a = both (leb (nat_abs lat) 540000) (leb (nat_abs lon) 1080000) e in
     record {
       latitude = omega arith;
@@ -69,7 +70,7 @@ position_lts r h =
     and x.high
     and none
 
-pub position_stays : (k : PositionKind) (x : Position) → position_in_range x ≡ true → position_in_range (carried_position k x) ≡ true
+pub position_stays : (k : PositionKind) (x : Option Position) → position_in_range x ≡ true → position_in_range (carried_position k x) ≡ true
 unfolding position_in_range carried_position
 position_stays no_position x h = refl
 position_stays degrees x h = h

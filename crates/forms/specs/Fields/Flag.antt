@@ -1,8 +1,6 @@
 -- The yes or no fields: "sync, fix (position checked), utc, summer, change and leap (announced in the last hour), dsp and lsp".
-use Rattle.std.specs.Prelude.{Bool, true, false, ◌||◌, ℕ, zero, suc, eqb}
+use Rattle.std.specs.Prelude.{Bool, true, false, ◌||◌, ℕ, zero, suc, eqb, Option, None, Some}
 use Rattle.cond.specs.Pick.{pick}
-use Rattle.record.specs.declared.Flag.{Flag}
-use Rattle.record.specs.declared.Flag.TheVariants as FlagIs
 
 -- a yes or no field has a letter of its own, is the first or the second of two that share one, or is told by the TFOM
 pub data FlagKind : Type 0 where
@@ -31,36 +29,36 @@ is_carried second_of_two = true
 is_carried by_quality = true
 
 -- the second letter of a yes or no field means yes
-abbrev pub yes_no : ℕ → Flag
-yes_no zero = FlagIs.No
-yes_no (suc n) = FlagIs.Yes
+abbrev pub yes_no : ℕ → Option Bool
+yes_no zero = Some false
+yes_no (suc n) = Some true
 
 -- "`U` utc yes and summer no; space both no; `S` utc no and summer yes" are 2, 0 and 1 of a shared letter, and so are
 -- "`!` change only, `A` leap only, space neither"; "TFOM is 0 for sync yes"
-unfoldable pub decode_flag : FlagKind → ℕ → ℕ → Flag
-decode_flag no_flag own shared = FlagIs.Absent
+unfoldable pub decode_flag : FlagKind → ℕ → ℕ → Option Bool
+decode_flag no_flag own shared = None
 decode_flag own_letter own shared = yes_no own
-decode_flag first_of_two own shared = pick (eqb shared 2) FlagIs.Yes FlagIs.No
-decode_flag second_of_two own shared = pick (eqb shared 1) FlagIs.Yes FlagIs.No
-decode_flag by_quality own shared = pick (eqb shared 0) FlagIs.Yes FlagIs.No
+decode_flag first_of_two own shared = Some (eqb shared 2)
+decode_flag second_of_two own shared = Some (eqb shared 1)
+decode_flag by_quality own shared = Some (eqb shared 0)
 
 -- "a carried field is absent" where this is false
-abbrev pub has_flag : Bool → Flag → Bool
+abbrev pub has_flag : Bool → Option Bool → Bool
 has_flag false f = true
-has_flag true FlagIs.Absent = false
-has_flag true FlagIs.No = true
-has_flag true FlagIs.Yes = true
+has_flag true None = false
+has_flag true (Some false) = true
+has_flag true (Some true) = true
 
 -- absent where it is not carried
-unfoldable pub carried_flag : Bool → Flag → Flag
-carried_flag false f = FlagIs.Absent
+unfoldable pub carried_flag : Bool → Option Bool → Option Bool
+carried_flag false f = None
 carried_flag true f = f
 
 -- which variant of the block's line it takes
-abbrev pub flag_choice : Flag → ℕ
-flag_choice FlagIs.Absent = 0
-flag_choice FlagIs.No = 1
-flag_choice FlagIs.Yes = 2
+abbrev pub flag_choice : Option Bool → ℕ
+flag_choice None = 0
+flag_choice (Some false) = 1
+flag_choice (Some true) = 2
 
 -- "TFOM not 0 or 15" where this is false
 abbrev pub quality_in_range : ℕ → Bool

@@ -1,8 +1,6 @@
 -- The offset: "minutes of local time minus UTC, -840..840".
-use Rattle.std.specs.Prelude.{Bool, true, false, List, [], ◌∷◌, ℕ, ◌+◌, ◌*◌, eqb, ltb, ℤ, nat_abs, neg_ℤ, pos}
+use Rattle.std.specs.Prelude.{Bool, true, false, List, [], ◌∷◌, ℕ, ◌+◌, ◌*◌, eqb, ltb, ℤ, nat_abs, neg_ℤ, pos, Option, None, Some}
 use Rattle.cond.specs.Pick.{one_if, pick}
-use Rattle.record.specs.declared.Offset.{Offset}
-use Rattle.record.specs.declared.Offset.TheVariants as OffsetIs
 use Rattle.record.specs.declared.sign.SignRule.{SignRule}
 use Rattle.record.specs.declared.sign.SignRule.TheVariants.{OneAbove, OneBelow}
 use Rattle.record.specs.Sign.{is_negative, signed}
@@ -18,12 +16,12 @@ sign_slot OneBelow = minus
 sign_slot OneAbove = plus
 
 -- W-203 "the offset that is added to the encoded time to reach UTC"
-abbrev pub opposite : Offset → Offset
-opposite OffsetIs.Absent = OffsetIs.Absent
-opposite (OffsetIs.Minutes z) = OffsetIs.Minutes (neg_ℤ z)
+abbrev pub opposite : Option ℤ → Option ℤ
+opposite None = None
+opposite (Some z) = Some (neg_ℤ z)
 
 -- the offset that a sign of 1 tells as below zero
-abbrev pub told_by : SignRule → Offset → Offset
+abbrev pub told_by : SignRule → Option ℤ → Option ℤ
 told_by OneBelow x = x
 told_by OneAbove x = opposite x
 
@@ -62,20 +60,20 @@ decode_minutes (in_half_hours x) v = v offset_hours * 60 + v half_hour * 30
 abbrev pub told_sign : OffsetKind → Values → ℕ
 told_sign k v = v (sign_slot (sign_rule k))
 
-unfoldable pub decode_offset : Bool → ℕ → ℕ → Offset
-decode_offset false sign n = OffsetIs.Absent
-decode_offset true sign n = OffsetIs.Minutes (signed (negative sign) n)
+unfoldable pub decode_offset : Bool → ℕ → ℕ → Option ℤ
+decode_offset false sign n = None
+decode_offset true sign n = Some (signed (negative sign) n)
 
 -- what an offset tells, 0 where it is absent
 
-abbrev pub minutes_of : Offset → ℤ
-minutes_of OffsetIs.Absent = pos 0
-minutes_of (OffsetIs.Minutes z) = z
+abbrev pub minutes_of : Option ℤ → ℤ
+minutes_of None = pos 0
+minutes_of (Some z) = z
 
-abbrev pub encode_minus : Offset → ℕ
+abbrev pub encode_minus : Option ℤ → ℕ
 encode_minus x = one_if (is_negative (minutes_of x))
 
-abbrev pub encode_minutes : Offset → ℕ
+abbrev pub encode_minutes : Option ℤ → ℕ
 encode_minutes x = nat_abs (minutes_of x)
 
 -- no half hour, one, or minutes that are neither
@@ -83,20 +81,20 @@ unfoldable pub half_hour_of : ℕ → ℕ
 half_hour_of n = pick (eqb n 0) 0 (pick (eqb n 30) 1 2)
 
 -- "a carried field is absent" where this is false
-abbrev pub has_offset : Bool → Offset → Bool
+abbrev pub has_offset : Bool → Option ℤ → Bool
 has_offset false o = true
-has_offset true OffsetIs.Absent = false
-has_offset true (OffsetIs.Minutes z) = true
+has_offset true None = false
+has_offset true (Some z) = true
 
 -- absent where it is not carried
-unfoldable pub carried_offset : Bool → Offset → Offset
-carried_offset false o = OffsetIs.Absent
+unfoldable pub carried_offset : Bool → Option ℤ → Option ℤ
+carried_offset false o = None
 carried_offset true o = o
 
 -- which variant of the block's line it takes
-abbrev pub offset_choice : Offset → ℕ
-offset_choice OffsetIs.Absent = 0
-offset_choice (OffsetIs.Minutes z) = 1
+abbrev pub offset_choice : Option ℤ → ℕ
+offset_choice None = 0
+offset_choice (Some z) = 1
 
 -- "offset minutes over 59" where this is false
 abbrev pub minutes_in_range : ℕ → Bool

@@ -1,6 +1,6 @@
 -- The position: "latitude .. and longitude .. in ten-thousandths of a degree, north and east positive, altitude 0..9,999 m", and W-204 "may be in
 -- hundredths of a minute without altitude".
-use Rattle.std.specs.Prelude.{Bool, true, false, ◌&&◌, List, [], ◌∷◌, ℕ, ◌+◌, ◌*◌, ltb, ℤ, nat_abs, pos}
+use Rattle.std.specs.Prelude.{Bool, true, false, ◌&&◌, List, [], ◌∷◌, ℕ, ◌+◌, ◌*◌, ltb, ℤ, nat_abs, pos, Option, None, Some}
 use Prim.Native.String.{String}
 use Rattle.cond.specs.Pick.{one_if, pick}
 use Rattle.record.specs.declared.Position.{Position}
@@ -49,63 +49,63 @@ signed_latitude k v = signed (negative (v south)) (decode_latitude k v)
 abbrev pub signed_longitude : PositionKind → Values → ℤ
 signed_longitude k v = signed (negative (v west)) (decode_longitude k v)
 
-unfoldable pub decode_position : PositionKind → Values → Position
-decode_position no_position v = PositionIs.Absent
-decode_position degrees v = PositionIs.Degrees (signed_latitude degrees v) (signed_longitude degrees v) (v altitude)
-decode_position minutes v = PositionIs.Minutes (signed_latitude minutes v) (signed_longitude minutes v)
+unfoldable pub decode_position : PositionKind → Values → Option Position
+decode_position no_position v = None
+decode_position degrees v = Some (PositionIs.Degrees (signed_latitude degrees v) (signed_longitude degrees v) (v altitude))
+decode_position minutes v = Some (PositionIs.Minutes (signed_latitude minutes v) (signed_longitude minutes v))
 
 -- what a position tells, 0 where it is absent: in the unit of its kind, whichever that is
 
-abbrev pub latitude_of : Position → ℤ
-latitude_of PositionIs.Absent = pos 0
-latitude_of (PositionIs.Degrees lat lon alt) = lat
-latitude_of (PositionIs.Minutes lat lon) = lat
+abbrev pub latitude_of : Option Position → ℤ
+latitude_of None = pos 0
+latitude_of (Some (PositionIs.Degrees lat lon alt)) = lat
+latitude_of (Some (PositionIs.Minutes lat lon)) = lat
 
-abbrev pub longitude_of : Position → ℤ
-longitude_of PositionIs.Absent = pos 0
-longitude_of (PositionIs.Degrees lat lon alt) = lon
-longitude_of (PositionIs.Minutes lat lon) = lon
+abbrev pub longitude_of : Option Position → ℤ
+longitude_of None = pos 0
+longitude_of (Some (PositionIs.Degrees lat lon alt)) = lon
+longitude_of (Some (PositionIs.Minutes lat lon)) = lon
 
-abbrev pub encode_south : Position → ℕ
+abbrev pub encode_south : Option Position → ℕ
 encode_south x = one_if (is_negative (latitude_of x))
 
-abbrev pub encode_west : Position → ℕ
+abbrev pub encode_west : Option Position → ℕ
 encode_west x = one_if (is_negative (longitude_of x))
 
-abbrev pub encode_altitude : Position → ℕ
-encode_altitude PositionIs.Absent = 0
-encode_altitude (PositionIs.Degrees lat lon alt) = alt
-encode_altitude (PositionIs.Minutes lat lon) = 0
+abbrev pub encode_altitude : Option Position → ℕ
+encode_altitude None = 0
+encode_altitude (Some (PositionIs.Degrees lat lon alt)) = alt
+encode_altitude (Some (PositionIs.Minutes lat lon)) = 0
 
 -- "a carried field is absent or of the other kind" where this is false; W-204 "8 where the wrong kind is there"
-abbrev pub has_position : PositionKind → Position → Bool
+abbrev pub has_position : PositionKind → Option Position → Bool
 has_position no_position p = true
-has_position degrees PositionIs.Absent = false
-has_position degrees (PositionIs.Degrees lat lon alt) = true
-has_position degrees (PositionIs.Minutes lat lon) = false
-has_position minutes PositionIs.Absent = false
-has_position minutes (PositionIs.Degrees lat lon alt) = false
-has_position minutes (PositionIs.Minutes lat lon) = true
+has_position degrees None = false
+has_position degrees (Some (PositionIs.Degrees lat lon alt)) = true
+has_position degrees (Some (PositionIs.Minutes lat lon)) = false
+has_position minutes None = false
+has_position minutes (Some (PositionIs.Degrees lat lon alt)) = false
+has_position minutes (Some (PositionIs.Minutes lat lon)) = true
 
 -- the numbers of a position of this kind, 0 where it is absent or of another one: "Neither kind is turned into the other."
 
-abbrev pub encode_latitude : PositionKind → Position → ℕ
+abbrev pub encode_latitude : PositionKind → Option Position → ℕ
 encode_latitude k x = pick (has_position k x) (nat_abs (latitude_of x)) 0
 
-abbrev pub encode_longitude : PositionKind → Position → ℕ
+abbrev pub encode_longitude : PositionKind → Option Position → ℕ
 encode_longitude k x = pick (has_position k x) (nat_abs (longitude_of x)) 0
 
 -- absent where it is not carried
-unfoldable pub carried_position : PositionKind → Position → Position
-carried_position no_position p = PositionIs.Absent
+unfoldable pub carried_position : PositionKind → Option Position → Option Position
+carried_position no_position p = None
 carried_position degrees p = p
 carried_position minutes p = p
 
 -- which variant of the block's line it takes
-abbrev pub position_choice : Position → ℕ
-position_choice PositionIs.Absent = 0
-position_choice (PositionIs.Degrees lat lon alt) = 1
-position_choice (PositionIs.Minutes lat lon) = 2
+abbrev pub position_choice : Option Position → ℕ
+position_choice None = 0
+position_choice (Some (PositionIs.Degrees lat lon alt)) = 1
+position_choice (Some (PositionIs.Minutes lat lon)) = 2
 
 -- W-204 "minutes of 60 or more are 4" where this is false
 abbrev pub arc_in_range : Values → Bool

@@ -8,7 +8,7 @@ use Rattle.sat.proofs.store_zone.Goals as goal
 pub returns-then-is_yes : goal.returns-then-is_yes
 unfolding stores
 returns-then-is_yes c = let u = sym c.is_yes.ensures ∙ c.if-is_yes.true in
-    rw (c.put_bytes.ensures, u, not-true (is_yes c.args.r.summer) (rw u at (good c.args.r c.requires.good).zoned))
+    rw (c.put_bytes.ensures, u, not-true (is_yes c.args.told.summer) (rw u at (good c.args.told c.requires.good).zoned))
 
 pub returns-then-is_yes-2 : goal.returns-then-is_yes-2
 unfolding stores

@@ -12,11 +12,11 @@ pub returns-then-s-n : goal.returns-then-s-n
 returns-then-s-n c = let n = ap (λ (x : Shape). x.length) c.shape_of-shape.ensures in
     no_more (record { is = n; some_byte = c.if-n-eq0.false; same = refl }) (omega arith)
 
-pub returns-in-Read : goal.returns-in-Read
-returns-in-Read c = here c.loop-p.invariant (omega arith) c.read_at-reading.ensures c.in-Read.is
+pub returns-in-Ok : goal.returns-in-Ok
+returns-in-Ok c = here c.loop-p.invariant (omega arith) c.read_at.ensures c.in-Ok.is
 
 pub loop-p-preserved : goal.loop-p-preserved
-loop-p-preserved c = go_on_lem c.loop-p.invariant (omega arith) c.read_at-reading.ensures c.in-Refused.is
+loop-p-preserved c = go_on_lem c.loop-p.invariant (omega arith) c.read_at.ensures c.in_default.is
 
 pub returns : goal.returns
 returns c = no_more c.loop-p.invariant (omega arith)

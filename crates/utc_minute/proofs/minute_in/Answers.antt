@@ -10,5 +10,5 @@ pub overflow_add-r : goal.overflow_add-r
 overflow_add-r c = omega (arith, minute_lt _ c.requires)
 
 pub utc_minute-requires : goal.utc_minute-requires
-utc_minute-requires c = let fits : SFits w32 c.in-Minutes.z = search rules in
-    (minute_lt _ c.requires, rw (to_z-of_z fits) (offset_le _ c.requires _ c.in-Minutes.is))
+utc_minute-requires c = let fits : SFits w32 c.in_ok-r.field-0 = search rules in
+    (minute_lt _ c.requires, rw (to_z-of_z fits) (offset_le _ c.requires _ c.in_ok-r.was))

@@ -2,13 +2,13 @@
 use Rattle.cond.proofs.Kit.{append_assoc, append-nil, arith}
 use Rattle.forms.specs.Block.{chosen_layout}
 use Rattle.forms.specs.Slots.{dsp, lsp}
-use Rattle.block_lines.specs.Flags.{flag_in, flag_slot}
+use Rattle.block_lines.specs.Flags.{flag_in}
 use Rattle.block.proofs.Layouts.{flag_laid}
 use Rattle.block.proofs.Lent.{laid_next}
 use Rattle.block.proofs.writer.write_last.Goals as goal
 
 pub returns : goal.returns
-unfolding chosen_layout flag_slot flag_in
+unfolding chosen_layout flag_in
 returns c = let r = c.args.r in
     let e1 = c.write_offset-position.ensures.0 in
     let e2 = laid_next _ _ _ _ _ _ _ _ (omega arith) e1 c.write_position.ensures.0 in

@@ -1,14 +1,14 @@
 -- Each case of the field has its own variant, which the callee stores.
 use Rattle.cond.proofs.Kit.{ap, arith}
-use Rattle.forms.specs.Encode.{encode}
 use Rattle.forms.specs.Fields.Channel.{encode_channel}
 use Rattle.forms.specs.Slots.{channel}
+use Rattle.forms.specs.Encode.{encode}
 use Rattle.forms.specs.Places.{layout_width}
 use Rattle.block_lines.proofs.Laid.{within}
 use Rattle.block_lines.proofs.channel.write_channel.Goals as goal
 
-pub returns-in-Absent : goal.returns-in-Absent
-returns-in-Absent c = simp c.in-Absent.is (within _ _ _ _ _ _ (c.put_word.ensures (encode c.args.r)) (unfold layout_width in omega arith))
+pub returns-in-None : goal.returns-in-None
+returns-in-None c = simp c.in-None.is (within _ _ _ _ _ _ (c.put_word.ensures (encode c.args.r)) (unfold layout_width in omega arith))
 
-pub returns-in-Number : goal.returns-in-Number
-returns-in-Number c = simp c.in-Number.is (within _ _ _ _ _ _ (c.put_number.ensures channel (encode c.args.r) (ap encode_channel c.in-Number.is)) (unfold layout_width in omega arith))
+pub returns-in-Some : goal.returns-in-Some
+returns-in-Some c = simp c.in-Some.is (within _ _ _ _ _ _ (c.put_number.ensures channel (encode c.args.r) (ap encode_channel c.in-Some.is)) (unfold layout_width in omega arith))

@@ -6,6 +6,4 @@ use Rattle.block_lines.proofs.minutes.has_position.Goals as goal
 pub returns : goal.returns
 unfolding shape
 returns c = simp and_assoc
-    (simp (c.is_at-2.ensures, c.is_arc-2.ensures, c.digits_at-2.ensures, c.letter_at-2.ensures, c.is_at.ensures)
-    (simp (c.is_arc.ensures, c.digits_at.ensures, c.letter_at.ensures, c.text_at.ensures)
-    (simp (and_assoc, and-true))))
+    (simp (c.is_at-2.ensures, c.has_minutes-2.ensures, c.is_at.ensures, c.has_minutes.ensures, c.text_at.ensures) (simp (and_assoc, and-true)))

@@ -10,12 +10,12 @@ returns-then-n-ne-SIZE c = simp (ne_eqb _ _ c.if-n-ne-SIZE.true)
 
 pub record_at-requires : goal.record_at-requires
 unfolding record_of
-record_at-requires c = (search rules, flat_fits _ (sym c.is_flat.ensures ∙ c.if-is_flat.true))
+record_at-requires c = (search rules, flat_fits _ (sym c.is_flat.ensures ∙ c.if-not-is_flat.false))
 
-pub returns-then-is_flat : goal.returns-then-is_flat
+pub returns : goal.returns
 unfolding record_of
-returns-then-is_flat c = simp (eq-eqb _ _ c.if-n-ne-SIZE.false, sym c.is_flat.ensures ∙ c.if-is_flat.true, c.record_at.ensures)
+returns c = simp (eq-eqb _ _ c.if-n-ne-SIZE.false, sym c.is_flat.ensures ∙ c.if-not-is_flat.false, c.record_at.ensures)
 
-pub returns-else-is_flat : goal.returns-else-is_flat
+pub returns-then-not-is_flat : goal.returns-then-not-is_flat
 unfolding record_of
-returns-else-is_flat c = simp (eq-eqb _ _ c.if-n-ne-SIZE.false, sym c.is_flat.ensures ∙ c.if-is_flat.false)
+returns-then-not-is_flat c = simp (eq-eqb _ _ c.if-n-ne-SIZE.false, sym c.is_flat.ensures ∙ c.if-not-is_flat.true)

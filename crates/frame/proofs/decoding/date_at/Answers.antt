@@ -5,10 +5,10 @@ use Rattle.forms.specs.Fields.Date.{decode_date}
 use Rattle.forms.specs.Places.{values}
 use Rattle.frame.proofs.decoding.date_at.Goals as goal
 
-pub returns-in-On : goal.returns-in-On
+pub returns-in-Some : goal.returns-in-Some
 unfolding values groups_limit groups_width decode_date
-returns-in-On c = simp (← c.pair_number-year.ensures.0 0 refl, ← c.day_of_year.ensures, sym c.date_of_day-found.ensures ∙ c.in-On.is)
+returns-in-Some c = simp (← c.pair_number-year.ensures.0 0 refl, ← c.day_of_year.ensures, sym c.date_of_day-found.ensures ∙ c.in-Some.is)
 
-pub returns-in-NoSuchDate : goal.returns-in-NoSuchDate
+pub returns-in-None : goal.returns-in-None
 unfolding values groups_limit groups_width decode_date
-returns-in-NoSuchDate c = simp (← c.pair_number-year.ensures.0 0 refl, ← c.day_of_year.ensures, sym c.date_of_day-found.ensures ∙ c.in-NoSuchDate.is)
+returns-in-None c = simp (← c.pair_number-year.ensures.0 0 refl, ← c.day_of_year.ensures, sym c.date_of_day-found.ensures ∙ c.in-None.is)

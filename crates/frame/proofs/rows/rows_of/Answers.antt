@@ -9,7 +9,7 @@ use Rattle.frame.proofs.rows.rows_of.Goals as goal
 
 pub seconds_of_day-seconds-requires : goal.seconds_of_day-seconds-requires
 unfolding bound
-seconds_of_day-seconds-requires c = let t = encode_lt c.args.r (good c.args.r c.requires) in
+seconds_of_day-seconds-requires c = let t = encode_lt c.args.told (good c.args.told c.requires) in
     omega (arith, t hour, t minute, t second)
 
 pub returns : goal.returns
@@ -18,4 +18,4 @@ returns c = simp (c.with_pair.ensures, c.with_pair-2.ensures)
     (simp (c.with_pair-3.ensures, c.with_pair-4.ensures, c.with_bits.ensures)
     (simp (c.with_pair-5.ensures, c.zone_row.ensures)
     (simp (c.quality_row.ensures, c.with_bits-2.ensures, c.with_bits-3.ensures)
-    (simp (c.ordinal_of-day.ensures ∙ ordinal_in_range c.args.r.date (good c.args.r c.requires).date, c.seconds_of_day-seconds.ensures, c.year_of.ensures)))))
+    (simp (c.ordinal_of-day.ensures ∙ ordinal_in_range c.args.told.date (good c.args.told c.requires).date, c.seconds_of_day-seconds.ensures, c.year_of.ensures)))))

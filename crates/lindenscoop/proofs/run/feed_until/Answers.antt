@@ -6,16 +6,16 @@ use Rattle.lindenscoop.proofs.Chained.{next_long}
 use Rattle.lindenscoop.proofs.Runs.{all_fed, answered, goes_on}
 use Rattle.lindenscoop.proofs.run.feed_until.Goals as goal
 
-pub bounds-bytes-place : goal.bounds-bytes-place
-bounds-bytes-place c = let q = c.loop-i in
+pub bounds-bytes-moved : goal.bounds-bytes-moved
+bounds-bytes-moved c = let q = c.loop-i in
     let shape = c.shape_of-shape.ensures in
-    (passed (joined _ q.bytes q.at q.kept q.distance) _ q.invariant.1 shape c.passing_of.ensures c.in-Passed.is).0
+    (passed (joined _ q.bytes q.at q.kept q.distance) _ q.invariant.1 shape c.passing_of.ensures c.in-Some.is).0
 
-pub loop-i-preserved-in-Passed : goal.loop-i-preserved-in-Passed
-loop-i-preserved-in-Passed c = let q = c.loop-i in
+pub loop-i-preserved-in-Some : goal.loop-i-preserved-in-Some
+loop-i-preserved-in-Some c = let q = c.loop-i in
     let shape = c.shape_of-shape.ensures in
     let l = joined _ q.bytes q.at q.kept q.distance in
-    let fed = (passed l _ q.invariant.1 shape c.passing_of.ensures c.in-Passed.is).1 in
+    let fed = (passed l _ q.invariant.1 shape c.passing_of.ensures c.in-Some.is).1 in
     (omega arith, simp length-set q.invariant.1, goes_on _ l _ q.i q.invariant.2 (omega arith) fed refl)
 
 pub returns-then-is_answer : goal.returns-then-is_answer

@@ -1,21 +1,21 @@
 -- A buffer that is too short is refused; else the record is that of the reader.
 use Rattle.cond.proofs.Kit.{◌∙◌, ap, sym}
-use Rattle.record.specs.Answers.{read_number, read_record}
+use Rattle.record.specs.Answers.{number_in, read_record}
 use Rattle.lindenscoop.specs.Buffers.{shown}
 use Rattle.lindenscoop.proofs.Room.{shown_by}
 use Rattle.lindenscoop.proofs.telegrams.lindenscoop_read_numbers.Goals as goal
 
-pub returns-in-Read : goal.returns-in-Read
-returns-in-Read c = let r = c.args.numbers.now in
+pub returns-in-Ok : goal.returns-in-Ok
+returns-in-Ok c = let r = c.args.numbers.now in
     let t = sym c.record_fits.ensures ∙ c.if-not-record_fits.false in
-    let read = sym c.in-Read.is ∙ c.read.ensures in
+    let read = sym c.in-Ok.is ∙ c.read.ensures in
     let numbers = shown_by c.put_record.ensures t ∙ ap (λ x. shown (read_record x) r) read in
-    record { number = rw t (ap read_number read); numbers = rw t numbers }
+    record { number = rw t (ap number_in read); numbers = rw t numbers }
 
-pub returns-in-Refused : goal.returns-in-Refused
-returns-in-Refused c = let r = c.args.numbers.now in
+pub returns-in-Err : goal.returns-in-Err
+returns-in-Err c = let r = c.args.numbers.now in
     let t = sym c.record_fits.ensures ∙ c.if-not-record_fits.false in
-    let none = sym c.in-Refused.is ∙ c.read.ensures in
-    let empty = rw c.empty.ensures at c.put_record-in-Refused.ensures in
+    let none = sym c.in-Err.is ∙ c.read.ensures in
+    let empty = rw c.empty.ensures at c.put_record-in-Err.ensures in
     let numbers = shown_by empty t ∙ ap (λ x. shown (read_record x) r) none in
-    record { number = rw t (c.number.ensures ∙ ap read_number none); numbers = rw t numbers }
+    record { number = rw t (c.from.ensures ∙ ap number_in none); numbers = rw t numbers }

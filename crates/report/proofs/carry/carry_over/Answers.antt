@@ -10,5 +10,5 @@ returns-then-n-eq0 c = let a = c.args in
 pub returns : goal.returns
 returns c = let a = c.args in
     let n = c.length_of-n.ensures in
-    carried a.form a.end a.buffer.now _ _ c.least-filled.ensures
-    (c.least-k.ensures ∙ rw n) _ c.move_to_head.ensures
+    carried a.form a.end a.buffer.now _ _ c.min-filled.ensures
+    (c.min-k.ensures ∙ rw n) _ c.move_to_head.ensures

@@ -13,36 +13,36 @@ returns-then-out-piece c = let a = c.args in
     no_room a.form a.piece.now a.out.now (λ e. c.if-n-eq0.false (c.length_of-n.ensures ∙ e)) c.if-out-piece.true
 
 pub slice_bounds-put_paragraph-end : goal.slice_bounds-put_paragraph-end
-slice_bounds-put_paragraph-end c = let q = c.loop-at in
-    omega (arith, fits q.invariant c.search-finding.ensures c.in-Found.is)
+slice_bounds-put_paragraph-end c = let q = c.loop-found in
+    omega (arith, fits q.invariant c.search.ensures c.in-Ok.is)
 
 pub put_paragraph-bytes-requires : goal.put_paragraph-bytes-requires
-put_paragraph-bytes-requires c = let q = c.loop-at in
-    let found = c.search-finding.ensures in
-    let g = c.in-Found.is in
+put_paragraph-bytes-requires c = let q = c.loop-found in
+    let found = c.search.ensures in
+    let g = c.in-Ok.is in
     (good q.invariant found g, omega (arith, part_length q.out q.bytes (q.bytes + 175 - q.bytes) (omega (arith, fits q.invariant found g))))
 
 pub overflow_add-start : goal.overflow_add-start
-overflow_add-start c = let q = c.loop-at in
-    let found = c.search-finding.ensures in
+overflow_add-start c = let q = c.loop-found in
+    let found = c.search.ensures in
     let n = c.length_of-n.ensures in
-    let g = c.in-Found.is in
+    let g = c.in-Ok.is in
     omega (arith, ends_inside q.invariant found g _ _ n c.put_paragraph-bytes.ensures.0)
 
-pub loop-at-smaller : goal.loop-at-smaller
-loop-at-smaller c = let q = c.loop-at in
-    let found = c.search-finding.ensures in
+pub loop-found-smaller : goal.loop-found-smaller
+loop-found-smaller c = let q = c.loop-found in
+    let found = c.search.ensures in
     let n = c.length_of-n.ensures in
     let put = c.put_paragraph-bytes.ensures in
-    let next = goes_on q.invariant found c.in-Found.is _ _ n put.0 _ put.1 in
+    let next = goes_on q.invariant found c.in-Ok.is _ _ n put.0 _ put.1 in
     omega (arith, next.0, next.1.inside)
 
-pub loop-at-preserved : goal.loop-at-preserved
-loop-at-preserved c = let q = c.loop-at in
-    let found = c.search-finding.ensures in
+pub loop-found-preserved : goal.loop-found-preserved
+loop-found-preserved c = let q = c.loop-found in
+    let found = c.search.ensures in
     let n = c.length_of-n.ensures in
     let put = c.put_paragraph-bytes.ensures in
-    (goes_on q.invariant found c.in-Found.is _ _ n put.0 _ put.1).1
+    (goes_on q.invariant found c.in-Ok.is _ _ n put.0 _ put.1).1
 
-pub returns-in-Refused : goal.returns-in-Refused
-returns-in-Refused c = wrote_all c.loop-at.invariant c.search-finding.ensures c.in-Refused.is
+pub returns : goal.returns
+returns c = wrote_all c.loop-found.invariant c.search.ensures c.in_default.is

@@ -7,7 +7,9 @@ pub returns-then-s-t : goal.returns-then-s-t
 returns-then-s-t c = sym (lengths_differ _ _ c.if-s-t.true)
 
 pub loop-i-preserved : goal.loop-i-preserved
-loop-i-preserved c = let a = c.loop-i in (omega arith, same_step _ _ a.i a.same a.invariant.1 (omega arith) (omega arith))
+loop-i-preserved c = let a = c.loop-i in
+    same_step _ _ a.i a.same a.invariant (omega arith) (omega arith)
 
 pub returns : goal.returns
-returns c = let a = c.loop-i in same_end _ _ a.i a.same a.invariant.1 (omega arith) (omega arith)
+returns c = let a = c.loop-i in
+    same_end _ _ a.i a.same a.invariant (omega arith) (omega arith)

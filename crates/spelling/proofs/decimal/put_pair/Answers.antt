@@ -4,11 +4,11 @@ use Rattle.spelling.specs.Bytes.{decimal, spelled_in}
 use Rattle.spelling.specs.Stored.{stored}
 use Rattle.spelling.proofs.decimal.put_pair.Goals as goal
 
-digits : (n r : ℕ) → r ≡ n % 100 → (r / 10 + 48) ∷ (r - r / 10 * 10 + 48) ∷ [] ≡ decimal 2 n
+digits : (n r : ℕ) → r ≡ n % 100 → (48 + r / 10) ∷ (48 + (r - r / 10 * 10)) ∷ [] ≡ decimal 2 n
 unfolding spelled_in
 digits n r e =
-    let tens : r / 10 ≡ n / 10 ^ 1 % 10 = omega (arith, e) in
-    let ones : r - r / 10 * 10 ≡ n % 10 ^ 1 / 10 ^ 0 % 10 = omega (arith, e) in
+    let tens : 48 + r / 10 ≡ n / 10 ^ 1 % 10 + 48 = omega (arith, e) in
+    let ones : 48 + (r - r / 10 * 10) ≡ n % 10 ^ 1 / 10 ^ 0 % 10 + 48 = omega (arith, e) in
     rw (ones, tens)
 
 pub returns : goal.returns

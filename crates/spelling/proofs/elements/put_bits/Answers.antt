@@ -1,18 +1,20 @@
--- The bits still to be stored make of the elements as they are what all of them make of the elements at entry.
-use Rattle.cond.proofs.Kit.{◌∙◌, arith, length-set, sym}
+-- The bits stored and those still to be stored are all of them.
+use Rattle.cond.proofs.Kit.{◌∙◌, ap, arith, drop, length-drop, length-set, length-take-le, sub-zero, ℕ}
+use Rattle.spelling.specs.Bytes.{bits_of}
 use Rattle.spelling.proofs.Bits.{bits_length}
-use Rattle.spelling.proofs.Stored.{no_room, stored_in, stored_out}
-use Rattle.spelling.proofs.Stores.{put_bits_step, put_bits_end}
+use Rattle.spelling.proofs.Stored.{room, stored_part}
+use Rattle.spelling.proofs.Stores.{bits_end, bits_step}
 use Rattle.spelling.proofs.elements.put_bits.Goals as goal
 
-pub returns-then-not-has_room : goal.returns-then-not-has_room
-returns-then-not-has_room c = let a = c.args in
-    sym (stored_out _ _ _ (rw (bits_length a.w a.n) (no_room c.has_room.ensures c.if-not-has_room.true)))
+pub loop-place-init : goal.loop-place-init
+loop-place-init c =
+    let a = c.args in
+    let r = room c.has_room.ensures c.if-not-has_room.false in
+    (length-take-le _ (drop a.at a.out.now) (omega (arith, length-drop a.at a.out.now)) ∙ omega arith, ap (λ (m : ℕ). bits_of m a.n) (sub-zero a.w))
 
-pub loop-i-preserved : goal.loop-i-preserved
-loop-i-preserved c = let a = c.loop-i in (omega arith, simp length-set a.invariant.1, simp length-set a.invariant.2, a.invariant.3 ∙ put_bits_step _ _ _ _ a.i (omega arith))
+pub loop-place-preserved : goal.loop-place-preserved
+loop-place-preserved c = let a = c.loop-place in (simp length-set a.invariant.0, bits_step _ _ _ a.place-index _ (omega arith) a.invariant.0 a.invariant.1)
 
 pub returns : goal.returns
-returns c = let a = c.loop-i in
-    let b = c.args in
-    sym (stored_in _ _ _ (rw (bits_length b.w b.n) (omega (arith, a.invariant.2))) ∙ a.invariant.3 ∙ put_bits_end _ _ _ _ c.loop-i.i (omega arith))
+returns c = let a = c.loop-place in
+    stored_part _ _ _ _ (bits_length _ _) c.has_room.ensures _ c.if-not-has_room.false (bits_end _ _ _ a.place-index _ (omega arith) a.invariant.0 a.invariant.1)

@@ -8,19 +8,19 @@ use Rattle.spelling.proofs.hex.hex_number.Goals as goal
 pub returns-then-s-gt7 : goal.returns-then-s-gt7
 returns-then-s-gt7 c = many 7 _ _ 14 16 (lit< tt) (omega arith)
 
-pub loop-i-init : goal.loop-i-init
-loop-i-init c = spelt_none 14 16 hex_value _
+pub loop-b-init : goal.loop-b-init
+loop-b-init c = spelt_none 14 16 hex_value _
 
 pub overflow_mul-n : goal.overflow_mul-n
-overflow_mul-n c = omega (arith, room_most 14 16 _ _ 6 (lit< tt) c.loop-i.invariant.room (omega arith))
+overflow_mul-n c = omega (arith, room_most 14 16 _ _ 6 (lit< tt) c.loop-b.invariant.room (omega arith))
 
 pub overflow_add-n : goal.overflow_add-n
-overflow_add-n c = omega (arith, room_most 14 16 _ _ 6 (lit< tt) c.loop-i.invariant.room (omega arith))
+overflow_add-n c = omega (arith, room_most 14 16 _ _ 6 (lit< tt) c.loop-b.invariant.room (omega arith))
 
-pub loop-i-preserved : goal.loop-i-preserved
-loop-i-preserved c = let a = c.loop-i in
-    spelt_next 14 16 hex_value _ a.n a.i a.invariant _ (omega arith) (omega arith) c.hex_value.ensures.0
+pub loop-b-preserved : goal.loop-b-preserved
+loop-b-preserved c = let a = c.loop-b in
+    spelt_next 14 16 hex_value _ a.n a.b-index a.invariant _ (omega arith) (omega arith) c.hex_value.ensures.0
 
 pub returns : goal.returns
-returns c = let a = spelt_all 14 16 hex_value _ _ _ c.loop-i.invariant (omega arith) in
+returns c = let a = spelt_all 14 16 hex_value _ _ _ c.loop-b.invariant (omega arith) in
     (a.0 ∙ sym (few 7 _ _ (omega arith)), a.1)

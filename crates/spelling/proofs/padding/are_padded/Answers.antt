@@ -1,20 +1,12 @@
--- The bytes behind the spaces passed decide: the first that is no space starts the digits, and the last byte is one.
-use Rattle.cond.proofs.Kit.{◌+◌, ◌-◌, ◌∙◌, ◌≡◌, arith, drop, length, length-drop, List, sym, take, take_all, ℕ}
-use Rattle.spelling.proofs.Steps.{padded_digits, padded_last, padded_none, padded_space}
+use Rattle.cond.proofs.Kit.{◌∙◌, arith, refl}
+use Rattle.spelling.proofs.Steps.{more_behind, none_behind, one_behind}
 use Rattle.spelling.proofs.padding.are_padded.Goals as goal
 
-pub returns-then-s-eq0 : goal.returns-then-s-eq0
-returns-then-s-eq0 c = sym (padded_none _ c.if-s-eq0.true)
+pub returns-in-empty : goal.returns-in-empty
+returns-in-empty c = none_behind _ _ c.leading_spaces.ensures.value c.in-empty.len_below
 
-pub returns-then-b-ne32 : goal.returns-then-b-ne32
-returns-then-b-ne32 c = let a = c.loop-i in
-    let s : List ℕ = c.args.s.now in
-    let t : List ℕ = drop (a.i + 1) s in
-    let e : take (length s - (a.i + 1)) t ≡ t = take_all (length s - (a.i + 1)) t (omega (arith, length-drop (a.i + 1) s)) in
-    simp (c.are_digits.ensures, e) (padded_digits s a.i a.invariant.1 (omega arith) c.if-b-ne32.true)
+pub returns-in-len1 : goal.returns-in-len1
+returns-in-len1 c = c.is_digit.ensures ∙ one_behind _ _ c.leading_spaces.ensures.value (omega arith)
 
-pub loop-i-preserved : goal.loop-i-preserved
-loop-i-preserved c = let a = c.loop-i in (omega arith, padded_space _ a.i a.invariant.1 (omega arith) c.if-b-ne32.false)
-
-pub returns : goal.returns
-returns c = let a = c.loop-i in c.is_digit.ensures ∙ padded_last _ a.i a.invariant.1 (omega arith)
+pub returns-in-len1-up : goal.returns-in-len1-up
+returns-in-len1-up c = more_behind _ _ c.leading_spaces.ensures.value _ _ refl c.are_digits.ensures c.in-len1-up.len_at_least

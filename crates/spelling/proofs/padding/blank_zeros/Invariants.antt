@@ -1,10 +1,7 @@
--- The bytes passed stand as they are, and those from there on, blanked, make up what is asked for.
-use Rattle.cond.proofs.Kit.{◌++◌, ◌-◌, ◌≡◌, ◌≤◌, drop, length, take}
+-- The bytes passed stand as they are, and those from there on, blanked with the last one behind them, make up what is asked for.
+use Rattle.cond.proofs.Kit.{◌++◌, ◌≡◌, drop, take}
 use Rattle.spelling.specs.Bytes.{blanked}
 use Rattle.spelling.proofs.padding.blank_zeros.Given as goal
 
-abbrev pub invariant-loop-i : goal.invariant-loop-i
-invariant-loop-i l = (l.i ≤ length l.initial.out) × (length l.out ≡ length l.initial.out) × (blanked l.initial.out ≡ take l.i l.out ++ blanked (drop l.i l.out))
-
-abbrev pub decreases-loop-i : goal.decreases-loop-i
-decreases-loop-i l = length l.out - l.i
+abbrev pub invariant-loop-digit : goal.invariant-loop-digit
+invariant-loop-digit l = take l.digit-index l.digit-items ++ blanked (drop l.digit-index l.digit-items ++ drop l.last l.fn.out) ≡ blanked l.fn.out

@@ -1,9 +1,0 @@
--- The stores are those of the layout, place by place; each letter is that of its sign.
-use Rattle.cond.proofs.Kit.{rules}
-use Rattle.forms.specs.Places.{layout_width}
-use Rattle.places.specs.Stores.{stores}
-use Rattle.block_lines.proofs.position.put_position.Goals as goal
-
-pub returns : goal.returns
-unfolding stores layout_width
-returns c = search rules

@@ -1,8 +1,0 @@
--- The position is stored in its three pieces.
-use Rattle.forms.specs.Encode.{encode}
-use Rattle.erlangen.proofs.Pieces.{stores_position}
-use Rattle.erlangen.proofs.writer.store_position.Goals as goal
-
-pub returns : goal.returns
-returns c = let a = c.args in
-    cc (stores_position (encode a.r) a.out.now)

@@ -1,7 +1,0 @@
--- The stores are those of the piece, place by place.
-use Rattle.places.specs.Stores.{stores}
-use Rattle.erlangen.proofs.writer.store_state.Goals as goal
-
-pub returns : goal.returns
-unfolding stores
-returns c = cc

@@ -1,0 +1,79 @@
+//! The rows of one rack in a table: how many, and where the newest stands.
+ghost use Rattle.std.specs.Prelude.{◌≡◌, ◌<◌, ◌≤◌, IfErr, IfOk, IfSome, IfNone, length, true};
+ghost use Rattle.racks.specs.RackRows.{BothRacks, OwnRows, Refuses};
+ghost use Rattle.racks.specs.Rows.{is_rack, others};
+
+use crate::Row;
+use record::refusal::Refusal;
+use runs::Run;
+use runs::row::is_row;
+
+/// How many rows a rack has, and the place of the newest in the table, 0 where there is none.
+#[derive(Clone, Copy, Debug, PartialEq, Eq)]
+pub struct RackRows {
+    pub count: u32,
+    pub newest: usize,
+}
+
+// The rows of rack 0 and those of rack 1; none where a row in use is of another rack. One walk for all three: a chain for each of them took
+// 1,895 instructions in place of 890 with 63 rows in use.
+fn racks_of(table: &[Row], used: usize) -> Option<(RackRows, RackRows)>
+    requires { (used ≤ 64) × (length table.now ≡ 64) }
+    ensures both { IfSome result (λ p. BothRacks table.now used p.0 p.1) }
+    ensures other { IfNone result (others table.now used ≡ true) }
+    ensures within { IfSome result (λ p. (p.0.newest < 64) × (p.1.newest < 64)) }
+{
+    let mut zero = RackRows {
+        count: 0,
+        newest: 0,
+    };
+    let mut one = zero;
+    for (i, row) in table[..used].iter().enumerate() {
+        if row.rack == 0 {
+            zero = RackRows {
+                count: zero.count + 1,
+                newest: i,
+            };
+        } else if row.rack == 1 {
+            one = RackRows {
+                count: one.count + 1,
+                newest: i,
+            };
+        } else {
+            return None;
+        }
+    }
+    Some((zero, one))
+}
+
+// Whether a rack may have so many rows, and this newest one.
+#[tactic(auto, unfolding(crate::specs::Rows::is_rack))]
+fn is_rack(count: u32, newest: Run) -> bool
+    ensures { result ≡ is_rack count newest }
+{
+    count <= 32 && (count == 0 || is_row(newest))
+}
+
+// The rows of a rack in a table of which so many rows are in use. The newest row of the other rack is judged too.
+pub(crate) fn own_rows(table: &[Row], used: u32, rack: u32) -> Result<RackRows, Refusal>
+    ensures own { IfOk result (OwnRows table.now used rack) }
+    ensures refused { IfErr result (Refuses table.now used rack) }
+    ensures within { IfOk result (λ o. o.newest < length table.now) }
+{
+    if rack > 1 {
+        return Err(Refusal::NoRack);
+    }
+    if table.len() != 64 || used > 64 {
+        return Err(Refusal::BadTable);
+    }
+    let (zero, one) = racks_of(table, used as usize).ok_or(Refusal::BadTable)?;
+    let holds = is_rack(zero.count, table[zero.newest].run)
+        & is_rack(one.count, table[one.newest].run);
+    if !holds {
+        Err(Refusal::BadTable)
+    } else if rack == 0 {
+        Ok(zero)
+    } else {
+        Ok(one)
+    }
+}

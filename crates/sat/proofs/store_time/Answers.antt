@@ -1,7 +1,0 @@
--- The stores are those of the layout's piece, place by place.
-use Rattle.places.specs.Stores.{stores}
-use Rattle.sat.proofs.store_time.Goals as goal
-
-pub returns : goal.returns
-unfolding stores
-returns c = rw (c.put_pairs-2.ensures, c.put_byte-3.ensures, c.put_digits.ensures, c.put_byte-2.ensures, c.put_pairs.ensures, c.year_of.ensures, c.month_of.ensures, c.day_of.ensures, c.put_byte.ensures, c.requires)

@@ -1,0 +1,4 @@
+mod Same
+pub mod Lean
+pub mod Beside
+pub mod Stored

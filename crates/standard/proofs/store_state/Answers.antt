@@ -1,8 +1,0 @@
--- The stores are those of the layout's piece, place by place.
-use Rattle.cond.proofs.Kit.{rules}
-use Rattle.places.specs.Stores.{stores}
-use Rattle.standard.proofs.store_state.Goals as goal
-
-pub returns : goal.returns
-unfolding stores
-returns c = search rules

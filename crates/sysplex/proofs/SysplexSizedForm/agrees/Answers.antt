@@ -1,0 +1,11 @@
+-- A SYSPLEX-1 string tells nothing twice.
+use Rattle.cond.proofs.Kit.{refl}
+use Rattle.forms.specs.Places.{has}
+use Rattle.forms.specs.Serial.{sysplex}
+use Rattle.forms.proofs.Slots.{every}
+use Rattle.sized_form.proofs.Lean.{agreed}
+use Rattle.sysplex.proofs.SysplexSizedForm.agrees.Goals as goal
+
+pub returns : goal.returns
+unfolding has every
+returns c = agreed sysplex c.args._s.now refl c.args._told c.requires.decoded refl

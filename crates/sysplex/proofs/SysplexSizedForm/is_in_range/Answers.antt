@@ -1,0 +1,13 @@
+-- A SYSPLEX-1 string tells date, time and sync alone.
+use Rattle.cond.proofs.Kit.{refl}
+use Rattle.forms.specs.Carries.{carries_of}
+use Rattle.forms.specs.Places.{has}
+use Rattle.forms.specs.Serial.{sysplex}
+use Rattle.forms.proofs.Slots.{every}
+use Rattle.places.proofs.Validated.{timed}
+use Rattle.sized_form.proofs.Lean.{ranged}
+use Rattle.sysplex.proofs.SysplexSizedForm.is_in_range.Goals as goal
+
+pub returns : goal.returns
+unfolding has every carries_of
+returns c = ranged sysplex c.args._s.now refl c.args.told c.requires.decoded _ (timed sysplex c.args._s.now _ c.requires.decoded refl refl refl refl _ c.date_time_in_range.ensures) refl
