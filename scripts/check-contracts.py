@@ -1,7 +1,8 @@
 #!/usr/bin/env python3
 """Checks that every function which another crate or C can reach has a contract that promises something and asks nothing of its caller.
 
-What a trait asks of its types may ask something in turn, where only the trait's own crate calls it: no other crate has a call `.name(`.
+What an impl of a library's trait promises are its ghost members. A trait of the repository may ask something where no other crate can call its
+methods: outside of its own crate the trait stands only in `use` and in the impls of types that are private to theirs.
 """
 import glob
 import os
@@ -15,21 +16,30 @@ from mutants.sources import Crate
 ROOT = os.path.dirname(os.path.dirname(os.path.abspath(__file__)))
 
 
-TRAIT = re.compile(r"(?ms)^pub trait \w+.*?^}")
+ASKS, PROMISES, LAWS = (re.compile(rf"(?m)^\s*{word}") for word in (r"requires\b", r"ensures\b", r"ghost \w+ ="))
+TRAIT = re.compile(r"(?ms)^pub trait (\w+).*?^}")
 METHOD = re.compile(r"(?ms)^    fn (\w+)[^;{]*(?:\{[^{}]*\}[^;{]*)*;")
+
+
+def openings_of(trait, text):
+    """The lines by which a file of another crate opens the trait's methods to still others, or calls them where it may not."""
+    private = set(re.findall(r"(?m)^(?:struct|enum) (\w+)", text))
+    for line in re.findall(rf"(?m)^.*\b{trait}\b.*$", re.sub(r"(?m)//.*$", "", text)):
+        served = re.fullmatch(rf"impl {trait} for (\w+) {{", line)
+        if not re.fullmatch(r"use [\w:]+;", line) and not (served and served.group(1) in private):
+            yield line.strip()
 
 
 def methods_of(crate, text, others):
     """What is wrong with the methods that the traits of a file ask for, and how many they are."""
-    wrong, found = [], [m for trait in TRAIT.findall(text) for m in METHOD.finditer(trait)]
-    for method in found:
-        name, contract = method.group(1), method.group(0)
-        if not re.search(r"(?m)^\s*ensures\b", contract):
-            wrong.append(f"{crate}::{name} promises nothing")
-        called = [path for path, other in others if re.search(rf"\.{name}\(", other)]
-        if re.search(r"(?m)^\s*requires\b", contract) and called:
-            wrong.append(f"{crate}::{name} asks something of its callers, and {called[0]} calls it")
-    return wrong, len(found)
+    wrong, count = [], 0
+    for trait in TRAIT.finditer(text):
+        methods = list(METHOD.finditer(trait.group(0)))
+        count += len(methods)
+        wrong += [f"{crate}::{m.group(1)} promises nothing" for m in methods if not PROMISES.search(m.group(0))]
+        if any(ASKS.search(m.group(0)) for m in methods):
+            wrong += [f"{crate}::{trait.group(1)} asks something, and {path} opens it: {line}" for path, other in others for line in openings_of(trait.group(1), other)]
+    return wrong, count
 
 
 def main():
@@ -46,10 +56,10 @@ def main():
                 if not function.public:
                     continue
                 public += 1
-                contract = text[function.header : function.start]
-                if re.search(r"(?m)^\s*requires\b", contract):
+                contract, laws = text[function.header : function.start], text[function.block : function.header] if function.served else ""
+                if ASKS.search(contract):
                     wrong.append(f"{function.name} asks something of its caller")
-                if not re.search(r"(?m)^\s*ensures\b", contract):
+                if not PROMISES.search(contract) and not LAWS.search(laws):
                     wrong.append(f"{function.name} promises nothing")
     for line in wrong:
         print("contracts:", line)

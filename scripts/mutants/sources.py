@@ -1,4 +1,5 @@
 """The functions of a crate, read from its sources as `rt fmt` lays them out: where each body stands, what it calls, who can reach it."""
+import functools
 import glob
 import os
 import re
@@ -15,9 +16,14 @@ class Function:
     def __init__(self, name, public, exported, method):
         self.name, self.public, self.exported, self.method = name, public, exported, method
         self.header = self.start = self.end = 0
-        self.calls = set()
-        # The type of an impl of a trait: who names it reaches the method through the trait.
-        self.served = None
+        self.calls, self.asks = set(), set()
+        # The type of an impl of a trait, and where the impl begins. The method is called by the type's name, or by a generic function of
+        # another crate that is handed a value of the type.
+        self.served = self.block = None
+
+    @property
+    def last(self):
+        return self.name.split("::")[-1]
 
     def proof_folder(self):
         return "proofs/" + "/".join(self.name.split("::")[1:]) + "/"
@@ -29,10 +35,18 @@ class Function:
         return f"::{self.name}".endswith(f"::{tail}") and (self.method or not dot)
 
 
+@functools.cache
+def traits_of(root):
+    """The traits that the repository declares. Who can name the types of another one's impl reaches its methods."""
+    texts = (open(p, encoding="utf-8").read() for p in glob.glob(f"{root}/crates/*/src/**/*.rt", recursive=True))
+    return {name for text in texts for name in re.findall(r"(?m)^pub trait (\w+)", text)}
+
+
 class Crate:
     def __init__(self, root, name):
         self.name, self.folder, self.by_name = name, f"{root}/crates/{name}", {}
         self.types, self.open_modules, self.handed_on = {}, {()}, set()
+        self.own_traits = traits_of(root)
         paths = sorted(glob.glob(f"{self.folder}/src/**/*.rt", recursive=True))
         texts = {os.path.relpath(p, self.folder): open(p, encoding="utf-8").read() for p in paths}
         for file, text in texts.items():
@@ -41,7 +55,17 @@ class Crate:
         self.by_name = {name: function for name, (function, _) in bodies.items()}
         for function, body in bodies.values():
             called, words = CALL.findall(body), set(re.findall(r"\w+", body))
-            function.calls = {f.name for f in self.by_name.values() if any(f.is_called_by(c) for c in called) or f.served in words}
+            function.asks = {last for dot, _, last in called if dot}
+            asked = self.asked_by(root, called) if any(f.served in words for f in self.by_name.values()) else set()
+            served = {f.name for f in self.by_name.values() if f.served in words and f.last in asked}
+            named = {f.name for f in self.by_name.values() if any((f.served, f.last) == c[1:] for c in called)}
+            function.calls = {f.name for f in self.by_name.values() if any(f.is_called_by(c) for c in called)} | served | named
+
+    @staticmethod
+    def asked_by(root, called):
+        """The methods that functions of other crates, called here, call on what they are handed."""
+        others = {(crate, last) for _, crate, last in called if os.path.isdir(f"{root}/crates/{crate}/src") and crate}
+        return {m for crate, last in others for f in Crate(root, crate).by_name.values() if f.last == last for m in f.asks}
 
     @staticmethod
     def module_of(file):
@@ -63,16 +87,16 @@ class Crate:
 
     def functions_of(self, file, text):
         """The functions of a file of sources, in the text that it has or would have."""
-        at, owner, current, indent = 0, None, None, ""
+        at, owner, block_at, current, indent = 0, None, None, None, ""
         for line in text.split("\n"):
             end, header = at + len(line), HEADER.match(line)
             block = BLOCK.match(line)
             if block:
-                owner = block.groups()
+                owner, block_at = block.groups(), at
             elif header and not current:
                 indent = header.group(1)
                 current = self.function(header, self.module_of(file), owner if indent else None)
-                current.header = at
+                current.header, current.block = at, block_at if indent else None
             # A method that a trait asks for has no body here.
             if current and not current.start and owner and owner[0] == "trait" and indent and line.endswith(";"):
                 current = None
@@ -91,7 +115,8 @@ class Crate:
             module = self.types.get(item, module)
         # The prover names an impl by its type and its trait: U32FromRefusal.
         block = "".join(word[:1].upper() + word[1:] for part in (item, trait, arguments) if part for word in re.findall(r"\w+", part)) if trait else item
-        reached = public and (exported or self.can_be_reached(module, item or name))
+        given = bool(trait) and trait not in self.own_traits
+        reached = given or (public and (exported or self.can_be_reached(module, item or name)))
         function = Function("::".join((self.name, *module, *([block] if block else []), name)), reached, exported, bool(owner))
         function.served = item if trait else None
         return function

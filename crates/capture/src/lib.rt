@@ -11,7 +11,7 @@ use record::{Date, Fraction, Record};
 use sized_form::SizedForm;
 
 /// What the form supplies for its reader and its writer.
-pub struct Capture;
+struct Capture;
 
 impl SizedForm for Capture {
     ghost form = { λ _. capture };

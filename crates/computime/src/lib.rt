@@ -10,7 +10,7 @@ use record::{Date, Record};
 use sized_form::SizedForm;
 
 /// What the form supplies for its reader and its writer.
-pub struct Computime;
+struct Computime;
 
 // The string tells its date's weekday besides, 1 to 7.
 impl SizedForm for Computime {

@@ -17,7 +17,7 @@ mod store;
 
 /// A Uni Erlangen string: 66 bytes.
 #[derive(Clone, Copy, Debug, PartialEq, Eq)]
-pub struct Erlangen;
+struct Erlangen;
 
 impl SizedForm for Erlangen {
     ghost form = { λ _. erlangen };

@@ -22,8 +22,8 @@ mod validation;
 
 /// The frame under a sign rule: form 8 where a sign of 1 tells an offset above zero, form 11 where it tells one below.
 #[derive(Clone, Copy)]
-pub struct Frame {
-    pub rule: SignRule,
+struct Frame {
+    rule: SignRule,
 }
 
 impl SizedForm for Frame {

@@ -11,7 +11,7 @@ use sized_form::SizedForm;
 
 /// A RACAL string: 16 bytes.
 #[derive(Clone, Copy, Debug, PartialEq, Eq)]
-pub struct Racal;
+struct Racal;
 
 impl SizedForm for Racal {
     ghost form = { λ _. racal };

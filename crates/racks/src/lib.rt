@@ -43,8 +43,9 @@ struct Placed {
 }
 
 /// Puts a record's second into the newest run of its rack if it is the next one, and else into a row of its own. Refused are, and change
-/// nothing: a rack other than 0 and 1 (16), a table of other than 64 rows or whose rows in use no calls can have left (21), a bad record
-/// or one without a full date (14), and a second for which a rack of 32 rows has to open one more (15).
+/// nothing: a rack other than 0 and 1 (16); a table of other than 64 rows, one with more than 64 in use, with a row in use of another rack
+/// or more than 32 of one rack, or whose newest row of either rack has an impossible last second or a count above 4000000000 (21); a bad
+/// record or one without a full date (14); and a second for which a rack of 32 rows has to open one more (15).
 pub fn add(table: &mut [Row], used: u32, rack: u32, r: Record) -> Added
     ensures { (result ≡ added_of used (added_to table.old used rack r).answer) × (table.new ≡ (added_to table.old used rack r).rows) }
 {

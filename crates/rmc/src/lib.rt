@@ -17,7 +17,7 @@ mod store;
 
 /// An RMC string: 65 bytes.
 #[derive(Clone, Copy, Debug, PartialEq, Eq)]
-pub struct Rmc;
+struct Rmc;
 
 impl SizedForm for Rmc {
     ghost form = { λ _. rmc };

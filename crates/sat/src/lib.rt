@@ -16,7 +16,7 @@ use sized_form::SizedForm;
 
 /// A SAT string: 29 bytes.
 #[derive(Clone, Copy, Debug, PartialEq, Eq)]
-pub struct Sat;
+struct Sat;
 
 impl SizedForm for Sat {
     ghost form = { λ _. sat };

@@ -17,7 +17,7 @@ use sized_form::SizedForm;
 
 /// An ABB SPA string: 32 bytes.
 #[derive(Clone, Copy, Debug, PartialEq, Eq)]
-pub struct Spa;
+struct Spa;
 
 impl SizedForm for Spa {
     ghost form = { λ _. spa };

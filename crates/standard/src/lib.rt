@@ -16,7 +16,7 @@ use sized_form::SizedForm;
 
 /// A Meinberg Standard string: 32 bytes.
 #[derive(Clone, Copy, Debug, PartialEq, Eq)]
-pub struct Standard;
+struct Standard;
 
 impl SizedForm for Standard {
     ghost form = { λ _. standard };

@@ -10,7 +10,7 @@ use record::{Date, Record};
 use sized_form::SizedForm;
 
 /// What the form supplies for its reader and its writer.
-pub struct Sysplex;
+struct Sysplex;
 
 impl SizedForm for Sysplex {
     ghost form = { λ _. sysplex };
