@@ -12,7 +12,9 @@ use block_lines::position::read_position;
 use block_lines::state::State;
 use block_lines::time::read_time;
 
-// Line i at the head of a lent part, behind lines that told `before`.
+// Line i at the head of a lent part, behind lines that told `before`. A call of its own, as the reader of each line is: inlined into the loop
+// over the lines, the state would be copied field by field at each of them.
+#[inline(never)]
 pub(crate) fn read_line(i: usize, s: &[u8], before: State) -> Option<(usize, State)>
     requires { i < 14 }
     ensures { result ≡ line_read (get_or block_lines i []) s.now before }

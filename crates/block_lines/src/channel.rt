@@ -12,6 +12,7 @@ use record::Record;
 
 /// Reads the line of the channel at the head of the bytes.
 #[tactic(auto, unfolding(crate::specs::Reading::decoded, crate::specs::Reading::has_any, crate::specs::Reading::line_read, crate::specs::Reading::onto, forms::specs::Block::variant_at, forms::specs::Carries::carries_of, forms::specs::Places::has, forms::specs::Places::layout_width, forms::specs::Places::values, forms::specs::Fields::Channel::decode_channel))]
+#[inline(never)]
 pub fn read_channel(s: &[u8], before: State) -> Option<(usize, State)>
     ensures { result ≡ line_read channel_line s.now before }
 {

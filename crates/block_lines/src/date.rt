@@ -33,6 +33,7 @@ fn has_day_of_year(s: &[u8]) -> bool
 
 /// Reads the line of the date at the head of the bytes.
 #[tactic(auto, unfolding(crate::specs::Reading::decoded, crate::specs::Reading::has_any, crate::specs::Reading::line_read, crate::specs::Reading::onto, forms::specs::Block::variant_at, forms::specs::Carries::carries_of, forms::specs::Places::has, forms::specs::Places::layout_width, forms::specs::Places::values, forms::specs::Fields::Date::decode_date))]
+#[inline(never)]
 pub fn read_date(s: &[u8], before: State) -> Option<(usize, State)>
     ensures { result ≡ line_read date_line s.now before }
 {

@@ -57,6 +57,7 @@ fn with_flag(flag: Flag, told: Option<bool>, r: Record) -> Record
 
 /// Reads the line of a yes or no field under its key, which ends in `=`, at the head of the bytes.
 #[tactic(auto, unfolding(crate::specs::Flags::flag_read))]
+#[inline(never)]
 pub fn read_flag(flag: Flag, key: &[u8], s: &[u8], before: State) -> Option<(usize, State)>
     ensures { result ≡ flag_read key.now (flag_slot flag) s.now before }
 {

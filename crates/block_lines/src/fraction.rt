@@ -11,6 +11,7 @@ use crate::state::State;
 use record::{Fraction, Record};
 
 /// Reads the line of the fraction at the head of the bytes.
+#[inline(never)]
 pub fn read_fraction(s: &[u8], before: State) -> Option<(usize, State)>
     ensures { result ≡ line_read fraction_line s.now before }
 {

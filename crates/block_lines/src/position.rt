@@ -58,6 +58,7 @@ fn consistent_at(s: &[u8]) -> bool
 }
 
 /// Reads the line of the position at the head of the bytes.
+#[inline(never)]
 pub fn read_position(s: &[u8], before: State) -> Option<(usize, State)>
     ensures { result ≡ line_read position_line s.now before }
 {

@@ -19,6 +19,7 @@ fn has_time(s: &[u8]) -> bool
 
 /// Reads the line of the time at the head of the bytes.
 #[tactic(auto, unfolding(crate::specs::Reading::decoded, crate::specs::Reading::has_any, crate::specs::Reading::line_read, crate::specs::Reading::onto, forms::specs::Block::variant_at, forms::specs::Carries::carries_of, forms::specs::Places::has, forms::specs::Places::layout_width, forms::specs::Places::values))]
+#[inline(never)]
 pub fn read_time(s: &[u8], before: State) -> Option<(usize, State)>
     ensures { result ≡ line_read time_line s.now before }
 {

@@ -20,6 +20,8 @@ pub(crate) const STATE_BYTES: usize = FORM + 1;
 // Version 1, in the high four bits of the form's byte.
 const VERSION: u8 = 16;
 
+// Inlined, as `listener_of` is: a call hands the ring back by one more copy.
+#[inline(always)]
 fn ring_of(s: &[u8]) -> [u8; AT]
     requires { state_size ≤ length s.now }
     ensures { result ≡ take ring_size s.now }
@@ -49,6 +51,7 @@ fn form_in(s: &[u8]) -> u32
     wide_form(s[FORM] ^ VERSION)
 }
 
+#[inline(always)]
 pub(crate) fn listener_of(s: &[u8]) -> Listener
     requires { state_size ≤ length s.now }
     ensures { result ≡ listener_of s.now }

@@ -36,6 +36,15 @@ pub fn record_in(finding: Result<Found, Refusal>) -> Record
     }
 }
 
+// The n bytes from a place. A call of its own: the compiler would carry the addresses that a reader takes along in the loop over the places.
+#[inline(never)]
+fn part_at(s: &[u8], p: usize, n: usize) -> &[u8]
+    requires { p + n ≤ length s.now }
+    ensures { result.now ≡ window n s.now p }
+{
+    &s[p..p + n]
+}
+
 // The string at a place, read where its first and its last byte are those of the form.
 fn read_at(form: u32, s: &[u8], p: usize, n: usize, first: u8, last: u8) -> Result<Record, Refusal>
     requires { (n ≡ length_of form) × ((first ≡ start_of form) × ((last ≡ end_of form) × ((0 < n) × (p + n ≤ length s.now)))) }
@@ -44,11 +53,11 @@ fn read_at(form: u32, s: &[u8], p: usize, n: usize, first: u8, last: u8) -> Resu
     if s[p] != first {
         return Err(Refusal::WrongByte);
     }
-    let end = p + n;
-    if s[end - 1] != last {
+    let part = part_at(s, p, n);
+    if part[n - 1] != last {
         return Err(Refusal::WrongByte);
     }
-    serial::read(form, &s[p..end])
+    serial::read(form, part)
 }
 
 /// The first valid string at or after the start. Refusal 1 where the form is no serial one, then 12 where there is no such string.
