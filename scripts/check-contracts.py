@@ -2,7 +2,7 @@
 """Checks that every function which another crate or C can reach has a contract that promises something and asks nothing of its caller.
 
 What an impl of a library's trait promises are its ghost members. A trait of the repository may ask something where no other crate can call its
-methods: outside of its own crate the trait stands only in `use` and in the impls of types that are private to theirs.
+methods: outside of its own crate the trait stands only in `use` and in the impls of types that are private to theirs, and inside it has no impl.
 """
 import glob
 import os
@@ -30,7 +30,7 @@ def openings_of(trait, text):
             yield line.strip()
 
 
-def methods_of(crate, text, others):
+def methods_of(crate, text, own, others):
     """What is wrong with the methods that the traits of a file ask for, and how many they are."""
     wrong, count = [], 0
     for trait in TRAIT.finditer(text):
@@ -38,7 +38,10 @@ def methods_of(crate, text, others):
         count += len(methods)
         wrong += [f"{crate}::{m.group(1)} promises nothing" for m in methods if not PROMISES.search(m.group(0))]
         if any(ASKS.search(m.group(0)) for m in methods):
-            wrong += [f"{crate}::{trait.group(1)} asks something, and {path} opens it: {line}" for path, other in others for line in openings_of(trait.group(1), other)]
+            name = trait.group(1)
+            opened = [(path, line) for path, other in others for line in openings_of(name, other)]
+            opened += [(path, line) for path, other in own for line in re.findall(rf"(?m)^(?:impl\b.*\b{name} for|pub trait \w+.*:.*\b{name}\b).*$", other)]
+            wrong += [f"{crate}::{name} asks something, and {path} opens it: {line}" for path, line in opened]
     return wrong, count
 
 
@@ -49,8 +52,8 @@ def main():
         crate = Crate(ROOT, folder.split("/")[-3])
         for path in glob.glob(f"{crate.folder}/src/**/*.rt", recursive=True):
             text = open(path, encoding="utf-8").read()
-            others = [(p, t) for p, t in sources if not p.startswith(f"crates/{crate.name}/")]
-            faults, found = methods_of(crate.name, text, others)
+            own = [(p, t) for p, t in sources if p.startswith(f"crates/{crate.name}/")]
+            faults, found = methods_of(crate.name, text, own, [s for s in sources if s not in own])
             wrong, methods = wrong + faults, methods + found
             for function in crate.functions_of(os.path.relpath(path, crate.folder), text):
                 if not function.public:

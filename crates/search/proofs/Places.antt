@@ -20,10 +20,11 @@ module _ (form n : ℕ) (s : List ℕ) (p : ℕ) (inside : p + n ≤ length s) (
   other_start h =
       sym (wrong_start form (window n s p) (λ e. h (ap (λ (x : ℕ). get_or s x 0) (sym (add-zero p)) ∙ sym (at_byte 0 some_byte) ∙ e)))
 
-  pub other_end : (get_or (window n s p) (n - 1) 0 ≡ end_of form → ⊥) → None ≡ valid_of form (window n s p)
+  pub other_end : (get_or s (p + n - 1) 0 ≡ end_of form → ⊥) → None ≡ valid_of form (window n s p)
   other_end h =
       let l : length (window n s p) ≡ n = rw (length-take, length-drop) (omega arith) in
-      sym (wrong_end form (window n s p) (λ q. h (rw l at q)))
+      let e : p + (n - 1) ≡ p + n - 1 = omega arith in
+      sym (wrong_end form (window n s p) (λ q. h (ap (λ (x : ℕ). get_or s x 0) (sym e) ∙ sym (at_byte (n - 1) (omega arith)) ∙ (rw l at q))))
 
 pub no_form : (form : ℕ) (s : List ℕ) (start : ℕ) → length_of form ≡ 0 → Err refusal.UnknownForm ≡ search_of form s start
 unfolding search_of

@@ -36,7 +36,7 @@ pub fn record_in(finding: Result<Found, Refusal>) -> Record
     }
 }
 
-// The n bytes from a place. A call of its own: the compiler would carry the addresses that a reader takes along in the loop over the places.
+// The n bytes from a place. Inlined, the loop over the places would count along addresses that only the reader needs.
 #[inline(never)]
 fn part_at(s: &[u8], p: usize, n: usize) -> &[u8]
     requires { p + n ≤ length s.now }
@@ -53,11 +53,11 @@ fn read_at(form: u32, s: &[u8], p: usize, n: usize, first: u8, last: u8) -> Resu
     if s[p] != first {
         return Err(Refusal::WrongByte);
     }
-    let part = part_at(s, p, n);
-    if part[n - 1] != last {
+    let end = p + n;
+    if s[end - 1] != last {
         return Err(Refusal::WrongByte);
     }
-    serial::read(form, part)
+    serial::read(form, part_at(s, p, n))
 }
 
 /// The first valid string at or after the start. Refusal 1 where the form is no serial one, then 12 where there is no such string.
