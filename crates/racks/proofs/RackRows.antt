@@ -1,5 +1,5 @@
 -- The rows of a rack as they are found in a table are those of the definitions, and what holds of a table that is not refused.
-use Rattle.cond.proofs.Kit.{◌&&◌, ◌<◌, ◌∙◌, ◌≡◌, ◌≤◌, ◌⊎◌, arith, Bool, eq-eqb, eqb, eqb-true, false, inl, inr, le-leb, leb, leb-true, length, ne_eqb, le-ltb, lt-ltb, add-one, length-append, length-take-le, List, lt-leb, ltb, not, not-true, refl, suc, take, true, zero, ℕ, set, ltb-true, ◌+◌, get_or-take, eqb-false}
+use Rattle.cond.proofs.Kit.{◌&&◌, ◌<◌, ◌∙◌, ◌≡◌, ◌≤◌, arith, Bool, eq-eqb, eqb, eqb-true, false, le-leb, leb, leb-true, length, ne_eqb, le-ltb, lt-ltb, add-one, length-append, length-take-le, List, lt-leb, ltb, not, not-true, refl, suc, sym, take, true, zero, ℕ, set, ltb-true, ◌+◌, get_or-take, eqb-false}
 use Rattle.std.specs.Prelude.{Some, Option}
 use Rattle.cond.proofs.Tests.{both, other, or_left, or_right}
 use Rattle.record.specs.declared.Record.{Record}
@@ -12,9 +12,9 @@ use Rattle.runs.specs.Seconds.{is_second}
 use Rattle.racks.specs.declared.Outcome.TheVariants as outcome
 use Rattle.racks.specs.declared.Row.{Row}
 use Rattle.racks.specs.declared.rack_rows.RackRows.{RackRows}
-use Rattle.racks.specs.RackRows.{BothRacks, OwnRows, seen_of}
+use Rattle.racks.specs.RackRows.{BothRacks, OwnRows, Refuses, seen_of}
 use Rattle.racks.specs.Rows.{is_rack, is_table, no_row, others, own, rack_holds, row_at, added_to, answered, opened, unchanged, with_second, with_told}
-use Rattle.racks.proofs.Answers.{added_told}
+use Rattle.racks.proofs.Answers.{added_bad, added_none, added_told}
 use Rattle.racks.proofs.Own.{count, newest_lt, own_few}
 
 -- what a walk over the rows in use has seen of the first i
@@ -61,20 +61,38 @@ module _ (rows : List Row) (u i : ℕ) (y z : RackRows) (w : Walked rows u i y z
     pub none_walked : ((row_at (take u rows) i).rack ≡ 0 → ⊥) → ((row_at (take u rows) i).rack ≡ 1 → ⊥) → others rows u ≡ true
     none_walked m n = let h : 1 < (row_at (take u rows) i).rack = omega arith in stays rows i u below (rw row_is at h)
 
--- the tests of a table are those of the definition
-pub no_table : (rows : List Row) (u : ℕ) → (length rows ≡ 64 → ⊥) ⊎ ((length rows ≡ 64) × (64 < u)) → is_table rows u ≡ false
-unfolding is_table
-no_table rows u (inl n) = rw (ne_eqb (length rows) 64 n)
-no_table rows u (inr (f, l)) = rw (eq-eqb (length rows) 64 f, lt-leb u 64 l)
+-- why a rack has no rows that are told, by the tests in their order
+pub no_rack : (rows : List Row) (u k : ℕ) → 1 < k → Refuses rows u k refusal.NoRack
+no_rack rows u k l r = added_none rows u k r (lt-leb k 1 l)
 
-pub other_rack : (rows : List Row) (u : ℕ) → length rows ≡ 64 → u ≤ 64 → others rows u ≡ true → is_table rows u ≡ false
+pub other_length : (rows : List Row) (u k : ℕ) → k ≤ 1 → (length rows ≡ 64 → ⊥) → Refuses rows u k refusal.BadTable
 unfolding is_table
-other_rack rows u f l h = rw (eq-eqb (length rows) 64 f, le-leb u 64 l, h)
+other_length rows u k l n r = added_bad rows u k r (le-leb k 1 l) (rw (ne_eqb (length rows) 64 n))
 
-pub table_is : (rows : List Row) (u : ℕ) (y z : RackRows) → length rows ≡ 64 → u ≤ 64 → BothRacks rows u y z
-    → (is_rack y.count (row_at rows y.newest).run && is_rack z.count (row_at rows z.newest).run) ≡ is_table rows u
+pub more_in_use : (rows : List Row) (u k : ℕ) → k ≤ 1 → length rows ≡ 64 → 64 < u → Refuses rows u k refusal.BadTable
 unfolding is_table
-table_is rows u y z f l w = rw (w.zero_is, w.one_is, eq-eqb (length rows) 64 f, le-leb u 64 l, w.only)
+more_in_use rows u k l f m r = added_bad rows u k r (le-leb k 1 l) (rw (eq-eqb (length rows) 64 f, lt-leb u 64 m))
+
+pub other_rack : (rows : List Row) (u k : ℕ) → k ≤ 1 → length rows ≡ 64 → u ≤ 64 → others rows u ≡ true → Refuses rows u k refusal.BadTable
+unfolding is_table
+other_rack rows u k l f m h r = added_bad rows u k r (le-leb k 1 l) (rw (eq-eqb (length rows) 64 f, le-leb u 64 m, h))
+
+module _ (rows : List Row) (u k : ℕ) (y z : RackRows) (f : length rows ≡ 64) (m : u ≤ 64) (w : BothRacks rows u y z) where
+  abbrev known : Bool
+  known = is_rack y.count (row_at rows y.newest).run && is_rack z.count (row_at rows z.newest).run
+
+  table_is : known ≡ is_table rows u
+  unfolding is_table
+  table_is = rw (w.zero_is, w.one_is, eq-eqb (length rows) 64 f, le-leb u 64 m, w.only)
+
+  pub newest_is_none : k ≤ 1 → known ≡ false → Refuses rows u k refusal.BadTable
+  newest_is_none l h r = added_bad rows u k r (le-leb k 1 l) (sym table_is ∙ h)
+
+  pub own_zero : k ≡ 0 → known ≡ true → OwnRows rows u k y (row_at rows y.newest).run
+  own_zero e h = rw e record { rack = omega arith; table = sym table_is ∙ h; is = w.zero_is; run_is = rw w.zero_is refl }
+
+  pub own_one : k ≡ 1 → known ≡ true → OwnRows rows u k z (row_at rows z.newest).run
+  own_one e h = rw e record { rack = omega arith; table = sym table_is ∙ h; is = w.one_is; run_is = rw w.one_is refl }
 
 -- a table that is not refused, and that it has a row left where one of its racks has
 pub record Counted (rows : List Row) (u : ℕ) : Type 0 where
@@ -115,26 +133,26 @@ join_count n m s known h =
     let row = other (eqb m 0) (is_row n) (both (leb m 32) _ known).1 (ne_eqb m 0 (λ e. omega arith)) in
     leb-true n.count 4000000000 (both (is_second n.last) _ row).1
 
-module _ (rows : List Row) (u k : ℕ) (r : Record) (o : RackRows) (w : OwnRows rows u k o) where
+module _ (rows : List Row) (u k : ℕ) (r : Record) (o : RackRows) (n : Run) (w : OwnRows rows u k o n) where
   pub opened_room : o.count < 32 → (u < 64) × (length rows ≡ 64)
   opened_room l = let c = counted rows u w.table in (room rows u k c w.rack (rw w.is at l), c.full)
 
   pub told_as : (t : Option Second) → second_in r ≡ t → added_to rows u k r ≡ with_told rows u k t
   told_as t e = added_told rows u k r (le-leb k 1 w.rack) w.table t e
 
-  pub join_fits : (s : Second) → joins (row_at rows o.newest).run o.count s ≡ true → (row_at rows o.newest).run.count ≤ 4000000000
-  join_fits s h = join_count (row_at rows o.newest).run o.count s (rw w.is (holds rows u k w.rack (counted rows u w.table))) h
+  pub join_fits : (s : Second) → joins n o.count s ≡ true → n.count ≤ 4000000000
+  join_fits s h = join_count n o.count s (rw (w.is, w.run_is) (holds rows u k w.rack (counted rows u w.table))) h
 
   module _ (s : Second) (e : second_in r ≡ Some s) where
-    pub joined_is : joins (row_at rows o.newest).run o.count s ≡ true
-        → added_to rows u k r ≡ record { answer = answered outcome.Joined u; rows = set rows o.newest (record { rack = k; run = longer (row_at rows o.newest).run s }) }
+    pub joined_is : joins n o.count s ≡ true
+        → added_to rows u k r ≡ record { answer = answered outcome.Joined u; rows = set rows o.newest (record { rack = k; run = longer n s }) }
     unfolding with_second
-    joined_is h = told_as _ e ∙ rw (w.is, rw w.is at h)
+    joined_is h = told_as _ e ∙ rw (w.is, w.run_is, rw (w.is, w.run_is) at h)
 
-    pub opened_is : joins (row_at rows o.newest).run o.count s ≡ false → o.count < 32 → added_to rows u k r ≡ opened rows u k s
+    pub opened_is : joins n o.count s ≡ false → o.count < 32 → added_to rows u k r ≡ opened rows u k s
     unfolding with_second
-    opened_is h l = told_as _ e ∙ rw (rw w.is at h, rw w.is at (lt-ltb o.count 32 l))
+    opened_is h l = told_as _ e ∙ rw (rw (w.is, w.run_is) at h, rw w.is at (lt-ltb o.count 32 l))
 
-    pub full_is : joins (row_at rows o.newest).run o.count s ≡ false → 32 ≤ o.count → added_to rows u k r ≡ unchanged refusal.NoRow rows
+    pub full_is : joins n o.count s ≡ false → 32 ≤ o.count → added_to rows u k r ≡ unchanged refusal.NoRow rows
     unfolding with_second
-    full_is h l = told_as _ e ∙ rw (rw w.is at h, rw w.is at (le-ltb o.count 32 l))
+    full_is h l = told_as _ e ∙ rw (rw (w.is, w.run_is) at h, rw w.is at (le-ltb o.count 32 l))

@@ -60,9 +60,8 @@ pub fn add(table: &mut [Row], used: u32, rack: u32, r: Record) -> Added
 fn place(table: &mut [Row], used: u32, rack: u32, r: Record) -> Result<Placed, Refusal>
     ensures { (result ≡ (added_to table.old used rack r).answer) × (table.new ≡ (added_to table.old used rack r).rows) }
 {
-    let own = own_rows(table, used, rack)?;
+    let (own, newest) = own_rows(table, used, rack)?;
     let second = second_in(r).ok_or(Refusal::NoSecond)?;
-    let newest = table[own.newest].run;
     if joins(newest, own.count, second) {
         let run = Run {
             last: second,

@@ -17,6 +17,7 @@ pub struct RackRows {
 
 // The rows of rack 0 and those of rack 1; none where a row in use is of another rack. One walk for all three: a chain for each of them took
 // 1,895 instructions in place of 890 with 63 rows in use.
+#[tactic(auto, using(crate::proofs::RackRows::none_walked, crate::proofs::RackRows::walked_zero, crate::proofs::RackRows::walked_one))]
 fn racks_of(table: &[Row], used: usize) -> Option<(RackRows, RackRows)>
     requires { (used ≤ 64) × (length table.now ≡ 64) }
     ensures both { IfSome result (λ p. BothRacks table.now used p.0 p.1) }
@@ -54,11 +55,12 @@ fn is_rack(count: u32, newest: Run) -> bool
     count <= 32 && (count == 0 || is_row(newest))
 }
 
-// The rows of a rack in a table of which so many rows are in use. The newest row of the other rack is judged too.
-pub(crate) fn own_rows(table: &[Row], used: u32, rack: u32) -> Result<RackRows, Refusal>
-    ensures own { IfOk result (OwnRows table.now used rack) }
+// The rows of a rack in a table of which so many rows are in use, and the newest run. That of the other rack is judged too.
+#[tactic(auto, using(crate::proofs::RackRows::no_rack, crate::proofs::RackRows::other_length, crate::proofs::RackRows::more_in_use, crate::proofs::RackRows::other_rack, crate::proofs::RackRows::newest_is_none, crate::proofs::RackRows::own_zero, crate::proofs::RackRows::own_one))]
+pub(crate) fn own_rows(table: &[Row], used: u32, rack: u32) -> Result<(RackRows, Run), Refusal>
+    ensures own { IfOk result (λ o. OwnRows table.now used rack o.0 o.1) }
     ensures refused { IfErr result (Refuses table.now used rack) }
-    ensures within { IfOk result (λ o. o.newest < length table.now) }
+    ensures within { IfOk result (λ o. o.0.newest < length table.now) }
 {
     if rack > 1 {
         return Err(Refusal::NoRack);
@@ -67,13 +69,14 @@ pub(crate) fn own_rows(table: &[Row], used: u32, rack: u32) -> Result<RackRows, 
         return Err(Refusal::BadTable);
     }
     let (zero, one) = racks_of(table, used as usize).ok_or(Refusal::BadTable)?;
-    let holds = is_rack(zero.count, table[zero.newest].run)
-        & is_rack(one.count, table[one.newest].run);
+    let newest_of_zero = table[zero.newest].run;
+    let newest_of_one = table[one.newest].run;
+    let holds = is_rack(zero.count, newest_of_zero) & is_rack(one.count, newest_of_one);
     if !holds {
         Err(Refusal::BadTable)
     } else if rack == 0 {
-        Ok(zero)
+        Ok((zero, newest_of_zero))
     } else {
-        Ok(one)
+        Ok((one, newest_of_one))
     }
 }
