@@ -36,6 +36,7 @@ fn minute_in(r: Record) -> Option<u32>
 /// The minute, `None` where the telegram tells no offset: no caller can take it for minute 0.
 // A public function asks nothing of its caller: it answers for every form's number and all bytes. That what was read is a good record is
 // proved (proofs/Good.antt) and not tested again.
+#[tactic(auto, using(crate::proofs::Good::read_good))]
 pub fn minute_told(form: u32, telegram: &[u8]) -> Result<Option<u32>, Refusal>
     ensures { result ≡ minute_told form telegram.now }
 {
