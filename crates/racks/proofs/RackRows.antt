@@ -1,4 +1,4 @@
--- The rows of a rack as they are found in a table are those of the definitions, and what holds of a table that is not refused.
+-- The rows of a rack as they are found in a table are those of the definitions, and which tables are refused; what holds of one that is not.
 use Rattle.cond.proofs.Kit.{◌&&◌, ◌<◌, ◌∙◌, ◌≡◌, ◌≤◌, arith, Bool, eq-eqb, eqb, eqb-true, false, le-leb, leb, leb-true, length, ne_eqb, le-ltb, lt-ltb, add-one, length-append, length-take-le, List, lt-leb, ltb, not, not-true, refl, suc, sym, take, true, zero, ℕ, set, ltb-true, ◌+◌, get_or-take, eqb-false}
 use Rattle.std.specs.Prelude.{Some, Option}
 use Rattle.cond.proofs.Tests.{both, other, or_left, or_right}
@@ -61,7 +61,7 @@ module _ (rows : List Row) (u i : ℕ) (y z : RackRows) (w : Walked rows u i y z
     pub none_walked : ((row_at (take u rows) i).rack ≡ 0 → ⊥) → ((row_at (take u rows) i).rack ≡ 1 → ⊥) → others rows u ≡ true
     none_walked m n = let h : 1 < (row_at (take u rows) i).rack = omega arith in stays rows i u below (rw row_is at h)
 
--- why a rack has no rows that are told, by the tests in their order
+-- why a record is refused for its rack or its table, by the tests in their order
 pub no_rack : (rows : List Row) (u k : ℕ) → 1 < k → Refuses rows u k refusal.NoRack
 no_rack rows u k l r = added_none rows u k r (lt-leb k 1 l)
 
@@ -78,20 +78,20 @@ unfolding is_table
 other_rack rows u k l f m h r = added_bad rows u k r (le-leb k 1 l) (rw (eq-eqb (length rows) 64 f, le-leb u 64 m, h))
 
 module _ (rows : List Row) (u k : ℕ) (y z : RackRows) (f : length rows ≡ 64) (m : u ≤ 64) (w : BothRacks rows u y z) where
-  abbrev known : Bool
-  known = is_rack y.count (row_at rows y.newest).run && is_rack z.count (row_at rows z.newest).run
+  abbrev both_hold : Bool
+  both_hold = is_rack y.count (row_at rows y.newest).run && is_rack z.count (row_at rows z.newest).run
 
-  table_is : known ≡ is_table rows u
+  table_is : both_hold ≡ is_table rows u
   unfolding is_table
   table_is = rw (w.zero_is, w.one_is, eq-eqb (length rows) 64 f, le-leb u 64 m, w.only)
 
-  pub newest_is_none : k ≤ 1 → known ≡ false → Refuses rows u k refusal.BadTable
-  newest_is_none l h r = added_bad rows u k r (le-leb k 1 l) (sym table_is ∙ h)
+  pub not_held : k ≤ 1 → both_hold ≡ false → Refuses rows u k refusal.BadTable
+  not_held l h r = added_bad rows u k r (le-leb k 1 l) (sym table_is ∙ h)
 
-  pub own_zero : k ≡ 0 → known ≡ true → OwnRows rows u k y (row_at rows y.newest).run
+  pub own_zero : k ≡ 0 → both_hold ≡ true → OwnRows rows u k y (row_at rows y.newest).run
   own_zero e h = rw e record { rack = omega arith; table = sym table_is ∙ h; is = w.zero_is; run_is = rw w.zero_is refl }
 
-  pub own_one : k ≡ 1 → known ≡ true → OwnRows rows u k z (row_at rows z.newest).run
+  pub own_one : k ≡ 1 → both_hold ≡ true → OwnRows rows u k z (row_at rows z.newest).run
   own_one e h = rw e record { rack = omega arith; table = sym table_is ∙ h; is = w.one_is; run_is = rw w.one_is refl }
 
 -- a table that is not refused, and that it has a row left where one of its racks has

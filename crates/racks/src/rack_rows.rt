@@ -1,4 +1,4 @@
-//! The rows of one rack in a table: how many, and where the newest stands.
+//! The rows of one rack in a table: how many, where the newest stands, and its run.
 ghost use Rattle.std.specs.Prelude.{◌≡◌, ◌<◌, ◌≤◌, IfErr, IfOk, IfSome, IfNone, length, true};
 ghost use Rattle.racks.specs.RackRows.{BothRacks, OwnRows, Refuses};
 ghost use Rattle.racks.specs.Rows.{is_rack, others};
@@ -55,8 +55,9 @@ fn is_rack(count: u32, newest: Run) -> bool
     count <= 32 && (count == 0 || is_row(newest))
 }
 
-// The rows of a rack in a table of which so many rows are in use, and the newest run. That of the other rack is judged too.
-#[tactic(auto, using(crate::proofs::RackRows::no_rack, crate::proofs::RackRows::other_length, crate::proofs::RackRows::more_in_use, crate::proofs::RackRows::other_rack, crate::proofs::RackRows::newest_is_none, crate::proofs::RackRows::own_zero, crate::proofs::RackRows::own_one))]
+// The rows of a rack in a table of which so many rows are in use, and the newest run, that of row 0 where it has none. The newest run of the
+// other rack is judged too.
+#[tactic(auto, using(crate::proofs::RackRows::no_rack, crate::proofs::RackRows::other_length, crate::proofs::RackRows::more_in_use, crate::proofs::RackRows::other_rack, crate::proofs::RackRows::not_held, crate::proofs::RackRows::own_zero, crate::proofs::RackRows::own_one))]
 pub(crate) fn own_rows(table: &[Row], used: u32, rack: u32) -> Result<(RackRows, Run), Refusal>
     ensures own { IfOk result (λ o. OwnRows table.now used rack o.0 o.1) }
     ensures refused { IfErr result (Refuses table.now used rack) }

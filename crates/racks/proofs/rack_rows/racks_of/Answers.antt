@@ -1,4 +1,4 @@
--- The counts stay within a table, and at the end all rows in use are seen; each row more is one of rack 0, one of rack 1, or ends the walk.
+-- The counts stay within a table, and at the end all rows in use are seen.
 use Rattle.cond.proofs.Kit.{arith, length-take-le, refl}
 use Rattle.racks.proofs.RackRows.{all_walked, count_lt, places_lt}
 use Rattle.racks.proofs.rack_rows.racks_of.Goals as goal
